@@ -1,0 +1,7 @@
+pub mod Answered
+pub mod Bd
+pub mod Lift
+pub mod Painted
+pub mod Table
+pub mod Tests
+pub mod Widen

@@ -1,0 +1,54 @@
+-- What a passed test says: of two tests joined, and of a signed number between two ends. Assumes nothing.
+use mathlib.Core.Path.{_≡_, refl}
+use mathlib.Core.Bool.{Bool, true, false, _&&_}
+use Prim.Native.Nat.{ℕ, suc, _≤_, _<_}
+use native.Mathlib.Omega.{arith}
+use borrow.Author.Tests.{leb-true, ltb-true}
+use lib.Dec.{T, leb}
+use lib.IntN.{ℤ, pos, negsuc, natAbs}
+use lib.Signed.{leZ, ltZ, nonNeg}
+use Rattle.base.specs.Number.{between, within}
+
+-- no test both passes and fails
+pub clash {ℓ} : {X : Type ℓ} → false ≡ true → X
+clash e = let z : _≡_ {A = ℕ} 0 1 = cc in absurd (omega arith)
+
+pub and-left : (a b : Bool) → (a && b) ≡ true → a ≡ true
+and-left true b e = refl
+and-left false b e = e
+
+pub and-right : (a b : Bool) → (a && b) ≡ true → b ≡ true
+and-right true b e = e
+and-right false b e = clash e
+
+-- both at once
+pub and-both : (a b : Bool) → (a && b) ≡ true → (a ≡ true) × (b ≡ true)
+and-both a b e = (and-left a b e, and-right a b e)
+
+pub within-both : (low high x : ℕ) → within low high x ≡ true → (low ≤ x) × (x ≤ high)
+unfolding within
+within-both low high x e =
+    let p = and-both (leb low x) (leb x high) e in (leb-true low x (p .0), leb-true x high (p .1))
+
+-- a number in 0..m is no negative one, and at most m
+pub between-pos : (m : ℕ) (z : ℤ) → between (pos 0) (pos m) z ≡ true → T (nonNeg z) × (natAbs z ≤ m)
+unfolding between
+between-pos m (pos n) e = (tt, leb-true n m (and-right (leb 0 n) (leb n m) e))
+between-pos m (negsuc n) e = clash e
+
+-- a number in -m..m is at most m from zero
+pub between-abs : (m : ℕ) (z : ℤ) → between (negsuc m) (pos (suc m)) z ≡ true → natAbs z ≤ suc m
+unfolding between
+between-abs m (pos n) e = leb-true n (suc m) e
+between-abs m (negsuc n) e = omega (arith, leb-true n m (and-left (leb n m) true e))
+
+-- between two numbers that are no negative ones
+pub leZ-up : (a b : ℤ) → T (nonNeg a) → leZ a b ≡ true → T (nonNeg b) × (natAbs a ≤ natAbs b)
+leZ-up (pos a) (pos b) t e = (tt, leb-true a b e)
+leZ-up (pos a) (negsuc b) t e = clash e
+leZ-up (negsuc a) b t e = absurd t
+
+pub ltZ-up : (a b : ℤ) → T (nonNeg a) → ltZ a b ≡ true → T (nonNeg b) × (natAbs a < natAbs b)
+ltZ-up (pos a) (pos b) t e = (tt, ltb-true a b e)
+ltZ-up (pos a) (negsuc b) t e = clash e
+ltZ-up (negsuc a) b t e = absurd t

@@ -1,0 +1,18 @@
+-- Numbers as the standard writes them. Assumes nothing.
+use Prim.Native.Nat.{ℕ}
+use mathlib.Core.Bool.{Bool, _&&_, cond}
+use lib.Dec.{leb}
+use lib.IntN.{ℤ}
+use lib.Signed.{ltZ, leZ}
+
+-- low <= x <= high
+unfoldable pub between : ℤ → ℤ → ℤ → Bool
+between low high x = leZ low x && leZ x high
+
+-- the same of unsigned numbers
+unfoldable pub within : ℕ → ℕ → ℕ → Bool
+within low high x = leb low x && leb x high
+
+-- Clip3( low, high, x ) of the standard's 4.7; document 01: "Test below low first, then above high", which decides where the ends cross
+unfoldable pub clip3 : ℤ → ℤ → ℤ → ℤ
+clip3 low high x = cond (ltZ x low) low (cond (ltZ high x) high x)
