@@ -1,5 +1,5 @@
 -- What a passed test says: of two tests joined, and of a signed number between two ends. Assumes nothing.
-use mathlib.Core.Path.{_≡_, refl}
+use mathlib.Core.Path.{_≡_, refl, sym}
 use mathlib.Core.Bool.{Bool, true, false, _&&_}
 use Prim.Native.Nat.{ℕ, suc, _≤_, _<_}
 use native.Mathlib.Omega.{arith}
@@ -8,6 +8,7 @@ use lib.Dec.{T, leb}
 use lib.IntN.{ℤ, pos, negsuc, natAbs}
 use lib.Signed.{leZ, ltZ, nonNeg}
 use Rattle.base.specs.Number.{between, within}
+use Rattle.base.specs.Position.{toN}
 
 -- no test both passes and fails
 pub clash {ℓ} : {X : Type ℓ} → false ≡ true → X
@@ -52,3 +53,17 @@ pub ltZ-up : (a b : ℤ) → T (nonNeg a) → ltZ a b ≡ true → T (nonNeg b) 
 ltZ-up (pos a) (pos b) t e = (tt, ltb-true a b e)
 ltZ-up (pos a) (negsuc b) t e = clash e
 ltZ-up (negsuc a) b t e = absurd t
+
+-- the test for a number below 0
+pub below-zero : (z : ℤ) → ltZ z (pos 0) ≡ true → toN z ≡ 0
+below-zero (pos n) e = absurd (omega (arith, ltb-true n 0 e))
+below-zero (negsuc n) e = refl
+
+pub not-below-zero : (z : ℤ) → ltZ z (pos 0) ≡ false → T (nonNeg z) × (natAbs z ≡ toN z)
+not-below-zero (pos n) e = (tt, refl)
+not-below-zero (negsuc n) e = clash (sym e)
+
+-- toN of a number that is no negative one is that number
+pub pos-toN : (z : ℤ) → T (nonNeg z) → pos (toN z) ≡ z
+pos-toN (pos n) t = refl
+pos-toN (negsuc n) t = absurd t

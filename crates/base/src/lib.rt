@@ -15,6 +15,7 @@ pub use answer::VECTOR;
 pub use answer::unless;
 pub use number::between;
 pub use number::clip3;
+pub use number::natural;
 pub use number::wide;
 pub use number::within;
 pub use units::Eighth;

@@ -1,6 +1,7 @@
 // Total helpers on numbers, each with the standard's own definition as its contract.
 ghost use mathlib.Core.Path.{_≡_};
 ghost use Rattle.base.specs.Number as Number;
+ghost use Rattle.base.specs.Position.{toN};
 
 // low <= x <= high
 pub fn between(low: i32, high: i32, x: i32) -> bool
@@ -34,4 +35,11 @@ pub fn wide(x: i32) -> i64
     ensures { λ r. ⌜ r ≡ x ⌝ }
 {
     x as i64
+}
+
+// x as an unsigned number; 0 for one below 0, which no accepted call has
+pub fn natural(x: i32) -> usize
+    ensures { λ r. ⌜ r ≡ toN x ⌝ }
+{
+    if x < 0 { 0 } else { x as usize }
 }

@@ -1,0 +1,4 @@
+pub mod Taps
+pub mod Sample
+pub mod Plane
+pub mod Call
