@@ -1,5 +1,6 @@
 pub mod Answered
 pub mod Bd
+pub mod Bits
 pub mod Lift
 pub mod Painted
 pub mod Table

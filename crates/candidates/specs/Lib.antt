@@ -1,0 +1,5 @@
+pub mod Places
+pub mod Tables
+pub mod Records
+pub mod Offers
+pub mod Search

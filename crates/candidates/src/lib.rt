@@ -1,0 +1,7 @@
+// The candidate search over lent tables, before clamping: places, records, offers.
+mod geometry;
+mod held;
+
+pub use geometry::MvRefGeometry;
+pub use geometry::Spot;
+pub use held::Held;
