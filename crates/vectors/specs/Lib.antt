@@ -1,0 +1,5 @@
+pub mod BlockMvs
+pub mod Sizes
+pub mod Select
+pub mod Clamp
+pub mod Scale
