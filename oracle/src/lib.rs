@@ -46,4 +46,5 @@ mod residual;
 use decoded_frame::Vp9DecodedFrame;
 
 pub mod door;
+pub mod plain;
 pub mod terms;
