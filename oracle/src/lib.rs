@@ -45,6 +45,8 @@ mod residual;
 
 use decoded_frame::Vp9DecodedFrame;
 
+pub mod cases;
 pub mod door;
 pub mod plain;
+pub mod table;
 pub mod terms;

@@ -1,0 +1,109 @@
+//! Files of test cases with the oracle's answers; README.md has their format byte by byte.
+
+mod best;
+mod bytes;
+mod clamp;
+mod edges;
+mod fixed;
+mod rng;
+mod scale;
+mod select;
+
+#[cfg(test)]
+mod tests;
+
+use crate::terms::{BestArgs, ClampArgs, ScaleArgs, SelectArgs};
+use bytes::{Read, Reader, Writer};
+use fixed::Fixed;
+use rng::Rng;
+
+const MAGIC: &[u8; 4] = b"KNOB";
+
+#[derive(Clone, Copy, Debug, PartialEq, Eq)]
+pub enum Call {
+    SelectMv = 1,
+    ClampMv,
+    ScaleMv,
+    FindBestRefMvs,
+}
+
+impl Call {
+    pub const ALL: [Call; 4] = [
+        Call::SelectMv,
+        Call::ClampMv,
+        Call::ScaleMv,
+        Call::FindBestRefMvs,
+    ];
+
+    pub fn name(self) -> &'static str {
+        match self {
+            Call::SelectMv => "select_mv",
+            Call::ClampMv => "clamp_mv",
+            Call::ScaleMv => "scale_mv",
+            Call::FindBestRefMvs => "find_best_ref_mvs",
+        }
+    }
+
+    pub fn named(name: &str) -> Option<Call> {
+        Call::ALL.into_iter().find(|call| call.name() == name)
+    }
+
+    /// Bytes of a record.
+    fn record(self) -> usize {
+        match self {
+            Call::SelectMv => SelectArgs::LENGTH,
+            Call::ClampMv => ClampArgs::LENGTH,
+            Call::ScaleMv => ScaleArgs::LENGTH,
+            Call::FindBestRefMvs => BestArgs::LENGTH,
+        }
+    }
+}
+
+/// A file of `count` cases: the boundaries of document 01's table first, then cases by chance.
+pub fn make(call: Call, seed: u64, count: u32) -> Vec<u8> {
+    let rng = &mut Rng::new(seed, call as u64);
+    let n = count as usize;
+    let mut w = Writer::default();
+    w.0.extend(MAGIC);
+    w.u32(call as u32);
+    w.len(call.record());
+    w.u32(count);
+    match call {
+        Call::SelectMv => fixed::make::<SelectArgs>(rng, n, &mut w),
+        Call::ClampMv => fixed::make::<ClampArgs>(rng, n, &mut w),
+        Call::ScaleMv => fixed::make::<ScaleArgs>(rng, n, &mut w),
+        Call::FindBestRefMvs => fixed::make::<BestArgs>(rng, n, &mut w),
+    }
+    w.0
+}
+
+#[derive(Clone, Copy, Debug, PartialEq, Eq)]
+pub struct Asked {
+    pub cases: usize,
+    pub differences: usize,
+}
+
+/// Answers every case of a file anew and counts those whose stored answer differs.
+pub fn ask(call: Call, bytes: &[u8]) -> Read<Asked> {
+    let r = &mut Reader::new(bytes);
+    if r.take(4)? != MAGIC {
+        return Err("this is no file of cases".to_string());
+    }
+    if r.u32()? != call as u32 {
+        return Err(format!("this file is not of {}", call.name()));
+    }
+    if r.len()? != call.record() {
+        return Err("the records are of another length".to_string());
+    }
+    let cases = r.len()?;
+    let differences = match call {
+        Call::SelectMv => fixed::ask::<SelectArgs>(r, cases),
+        Call::ClampMv => fixed::ask::<ClampArgs>(r, cases),
+        Call::ScaleMv => fixed::ask::<ScaleArgs>(r, cases),
+        Call::FindBestRefMvs => fixed::ask::<BestArgs>(r, cases),
+    }?;
+    if !r.at_end() {
+        return Err(format!("the file goes on after byte {}", r.at()));
+    }
+    Ok(Asked { cases, differences })
+}
