@@ -120,7 +120,7 @@ fn near(rng: &mut Rng, a: &ClampArgs, i: usize) -> i32 {
     }
     let (low, high) = sides(a, i);
     let side = if rng.coin() { low } else { high };
-    (side + rng.within(-2, 2)).clamp(-32768, 32768)
+    (side + rng.within(-2, 2)).clamp(-32767, 32767)
 }
 
 /// The least and the largest component, in eighths, that the clamp passes on: the edges of the
