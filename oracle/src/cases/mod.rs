@@ -7,7 +7,10 @@ mod edges;
 mod fixed;
 mod rng;
 mod scale;
+mod search;
+mod search_scenes;
 mod select;
+mod staged;
 
 #[cfg(test)]
 mod tests;
@@ -16,6 +19,8 @@ use crate::terms::{BestArgs, ClampArgs, ScaleArgs, SelectArgs};
 use bytes::{Read, Reader, Writer};
 use fixed::Fixed;
 use rng::Rng;
+use search::{Append, Find};
+use staged::Staged;
 
 const MAGIC: &[u8; 4] = b"KNOB";
 
@@ -25,14 +30,18 @@ pub enum Call {
     ClampMv,
     ScaleMv,
     FindBestRefMvs,
+    FindMvRefs,
+    AppendSub8x8Mvs,
 }
 
 impl Call {
-    pub const ALL: [Call; 4] = [
+    pub const ALL: [Call; 6] = [
         Call::SelectMv,
         Call::ClampMv,
         Call::ScaleMv,
         Call::FindBestRefMvs,
+        Call::FindMvRefs,
+        Call::AppendSub8x8Mvs,
     ];
 
     pub fn name(self) -> &'static str {
@@ -41,6 +50,8 @@ impl Call {
             Call::ClampMv => "clamp_mv",
             Call::ScaleMv => "scale_mv",
             Call::FindBestRefMvs => "find_best_ref_mvs",
+            Call::FindMvRefs => "find_mv_refs",
+            Call::AppendSub8x8Mvs => "append_sub8x8_mvs",
         }
     }
 
@@ -55,6 +66,8 @@ impl Call {
             Call::ClampMv => ClampArgs::LENGTH,
             Call::ScaleMv => ScaleArgs::LENGTH,
             Call::FindBestRefMvs => BestArgs::LENGTH,
+            Call::FindMvRefs => Find::LENGTH,
+            Call::AppendSub8x8Mvs => Append::LENGTH,
         }
     }
 }
@@ -73,6 +86,8 @@ pub fn make(call: Call, seed: u64, count: u32) -> Vec<u8> {
         Call::ClampMv => fixed::make::<ClampArgs>(rng, n, &mut w),
         Call::ScaleMv => fixed::make::<ScaleArgs>(rng, n, &mut w),
         Call::FindBestRefMvs => fixed::make::<BestArgs>(rng, n, &mut w),
+        Call::FindMvRefs => staged::make::<Find>(rng, n, &mut w),
+        Call::AppendSub8x8Mvs => staged::make::<Append>(rng, n, &mut w),
     }
     w.0
 }
@@ -101,6 +116,8 @@ pub fn ask(call: Call, bytes: &[u8]) -> Read<Asked> {
         Call::ClampMv => fixed::ask::<ClampArgs>(r, cases),
         Call::ScaleMv => fixed::ask::<ScaleArgs>(r, cases),
         Call::FindBestRefMvs => fixed::ask::<BestArgs>(r, cases),
+        Call::FindMvRefs => staged::ask::<Find>(r, cases),
+        Call::AppendSub8x8Mvs => staged::ask::<Append>(r, cases),
     }?;
     if !r.at_end() {
         return Err(format!("the file goes on after byte {}", r.at()));

@@ -1,18 +1,49 @@
 //! What is owed of every kind of file.
 
-use super::fixed::boundaries;
+use super::staged::Staged;
 use super::*;
 
-/// The numbers of a file's cases, in order.
-fn numbers(call: Call, file: &[u8]) -> Vec<u32> {
-    let answer_at = match call {
+/// Where the answer stands in a record.
+fn answer_at(call: Call) -> usize {
+    match call {
         Call::SelectMv => 84,
         Call::ClampMv => 36,
         Call::ScaleMv | Call::FindBestRefMvs => 44,
-    };
-    let records = file[16..].chunks_exact(call.record());
-    records
-        .map(|r| u32::from_le_bytes(r[answer_at..answer_at + 4].try_into().unwrap()))
+        Call::FindMvRefs => 64,
+        Call::AppendSub8x8Mvs => 96,
+    }
+}
+
+/// Where each record of a file begins, read by README's format alone.
+fn records(call: Call, file: &[u8]) -> Vec<usize> {
+    let word = |at: usize| u32::from_le_bytes(file[at..at + 4].try_into().unwrap()) as usize;
+    let (length, count) = (word(8), word(12));
+    let mut starts = Vec::new();
+    let mut at = 16;
+    while starts.len() < count {
+        let queries = match call as u32 {
+            1..=4 => count,
+            _ => {
+                at += 3400;
+                at += 8;
+                word(at - 8)
+            }
+        };
+        for _ in 0..queries {
+            starts.push(at);
+            at += length;
+        }
+    }
+    assert_eq!(at, file.len());
+    starts
+}
+
+/// The numbers of a file's cases, in order.
+fn numbers(call: Call, file: &[u8]) -> Vec<u32> {
+    let starts = records(call, file).into_iter();
+    let answer = |start: usize| &file[start + answer_at(call)..][..4];
+    starts
+        .map(|start| u32::from_le_bytes(answer(start).try_into().unwrap()))
         .collect()
 }
 
@@ -23,6 +54,8 @@ fn possible(call: Call) -> &'static [u32] {
         Call::ClampMv => &[0, 1, 2, 9],
         Call::ScaleMv => &[0, 1, 5, 6, 9],
         Call::FindBestRefMvs => &[0, 1, 2, 9],
+        Call::FindMvRefs => &[0, 1, 2, 3, 7, 8],
+        Call::AppendSub8x8Mvs => &[0, 1, 2, 3, 7, 8, 9],
     }
 }
 
@@ -39,18 +72,36 @@ fn every_answer_occurs_and_most_are_accepted() {
     }
 }
 
+fn hold_fixed<A: Fixed + std::fmt::Debug>() -> usize {
+    let cases = fixed::boundaries::<A>();
+    for (number, a) in &cases {
+        assert_eq!(a.number(), *number, "{a:?}");
+    }
+    cases.len()
+}
+
+fn hold_staged<S: Staged>() -> usize {
+    let stages = S::boundaries();
+    for (scene, queries) in &stages {
+        for (number, query) in queries {
+            assert_eq!(S::number(scene, query), *number, "{query:?}");
+        }
+    }
+    stages.iter().map(|(_, queries)| queries.len()).sum()
+}
+
+/// README.md states these counts.
 #[test]
 fn edges_give_the_number_they_were_written_for() {
-    fn hold<A: Fixed + std::fmt::Debug>() {
-        for (number, a) in boundaries::<A>() {
-            assert_eq!(a.number(), number, "{a:?}");
-        }
-        assert!(boundaries::<A>().len() <= 1000);
-    }
-    hold::<SelectArgs>();
-    hold::<ClampArgs>();
-    hold::<ScaleArgs>();
-    hold::<BestArgs>();
+    let counts = [
+        hold_fixed::<SelectArgs>(),
+        hold_fixed::<ClampArgs>(),
+        hold_fixed::<ScaleArgs>(),
+        hold_fixed::<BestArgs>(),
+        hold_staged::<Find>(),
+        hold_staged::<Append>(),
+    ];
+    assert_eq!(counts, [307, 158, 134, 178, 461, 545]);
 }
 
 #[test]
