@@ -1,11 +1,15 @@
 //! Files of test cases with the oracle's answers; README.md has their format byte by byte.
 
 mod best;
+mod block;
 mod bytes;
 mod clamp;
 mod edges;
 mod fixed;
+mod planes;
+mod predict;
 mod rng;
+mod row;
 mod scale;
 mod search;
 mod search_scenes;
@@ -16,9 +20,12 @@ mod staged;
 mod tests;
 
 use crate::terms::{BestArgs, ClampArgs, ScaleArgs, SelectArgs};
+use block::Block;
 use bytes::{Read, Reader, Writer};
 use fixed::Fixed;
+use predict::Predict;
 use rng::Rng;
+use row::RowRead;
 use search::{Append, Find};
 use staged::Staged;
 
@@ -32,16 +39,22 @@ pub enum Call {
     FindBestRefMvs,
     FindMvRefs,
     AppendSub8x8Mvs,
+    RowRead,
+    BlockInterPredict,
+    PredictInter,
 }
 
 impl Call {
-    pub const ALL: [Call; 6] = [
+    pub const ALL: [Call; 9] = [
         Call::SelectMv,
         Call::ClampMv,
         Call::ScaleMv,
         Call::FindBestRefMvs,
         Call::FindMvRefs,
         Call::AppendSub8x8Mvs,
+        Call::RowRead,
+        Call::BlockInterPredict,
+        Call::PredictInter,
     ];
 
     pub fn name(self) -> &'static str {
@@ -52,6 +65,9 @@ impl Call {
             Call::FindBestRefMvs => "find_best_ref_mvs",
             Call::FindMvRefs => "find_mv_refs",
             Call::AppendSub8x8Mvs => "append_sub8x8_mvs",
+            Call::RowRead => "row_read",
+            Call::BlockInterPredict => "block_inter_predict",
+            Call::PredictInter => "predict_inter",
         }
     }
 
@@ -68,6 +84,9 @@ impl Call {
             Call::FindBestRefMvs => BestArgs::LENGTH,
             Call::FindMvRefs => Find::LENGTH,
             Call::AppendSub8x8Mvs => Append::LENGTH,
+            Call::RowRead => RowRead::LENGTH,
+            Call::BlockInterPredict => Block::LENGTH,
+            Call::PredictInter => Predict::LENGTH,
         }
     }
 }
@@ -88,6 +107,9 @@ pub fn make(call: Call, seed: u64, count: u32) -> Vec<u8> {
         Call::FindBestRefMvs => fixed::make::<BestArgs>(rng, n, &mut w),
         Call::FindMvRefs => staged::make::<Find>(rng, n, &mut w),
         Call::AppendSub8x8Mvs => staged::make::<Append>(rng, n, &mut w),
+        Call::RowRead => staged::make::<RowRead>(rng, n, &mut w),
+        Call::BlockInterPredict => staged::make::<Block>(rng, n, &mut w),
+        Call::PredictInter => staged::make::<Predict>(rng, n, &mut w),
     }
     w.0
 }
@@ -118,6 +140,9 @@ pub fn ask(call: Call, bytes: &[u8]) -> Read<Asked> {
         Call::FindBestRefMvs => fixed::ask::<BestArgs>(r, cases),
         Call::FindMvRefs => staged::ask::<Find>(r, cases),
         Call::AppendSub8x8Mvs => staged::ask::<Append>(r, cases),
+        Call::RowRead => staged::ask::<RowRead>(r, cases),
+        Call::BlockInterPredict => staged::ask::<Block>(r, cases),
+        Call::PredictInter => staged::ask::<Predict>(r, cases),
     }?;
     if !r.at_end() {
         return Err(format!("the file goes on after byte {}", r.at()));

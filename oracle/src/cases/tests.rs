@@ -11,6 +11,9 @@ fn answer_at(call: Call) -> usize {
         Call::ScaleMv | Call::FindBestRefMvs => 44,
         Call::FindMvRefs => 64,
         Call::AppendSub8x8Mvs => 96,
+        Call::RowRead => 40,
+        Call::BlockInterPredict => 144,
+        Call::PredictInter => 236,
     }
 }
 
@@ -23,15 +26,22 @@ fn records(call: Call, file: &[u8]) -> Vec<usize> {
     while starts.len() < count {
         let queries = match call as u32 {
             1..=4 => count,
+            5..=6 => {
+                at += 3408;
+                word(at - 8)
+            }
             _ => {
-                at += 3400;
-                at += 8;
+                at += 8208;
                 word(at - 8)
             }
         };
         for _ in 0..queries {
             starts.push(at);
             at += length;
+            if call as u32 >= 8 {
+                let samples = word(starts[starts.len() - 1] + answer_at(call) + 8);
+                at += (2 * samples).next_multiple_of(8);
+            }
         }
     }
     assert_eq!(at, file.len());
@@ -56,6 +66,9 @@ fn possible(call: Call) -> &'static [u32] {
         Call::FindBestRefMvs => &[0, 1, 2, 9],
         Call::FindMvRefs => &[0, 1, 2, 3, 7, 8],
         Call::AppendSub8x8Mvs => &[0, 1, 2, 3, 7, 8, 9],
+        Call::RowRead => &[0, 5, 6, 7],
+        Call::BlockInterPredict => &[0, 1, 4, 5, 6, 7],
+        Call::PredictInter => &[0, 1, 2, 4, 5, 6, 7, 9],
     }
 }
 
@@ -100,8 +113,11 @@ fn edges_give_the_number_they_were_written_for() {
         hold_fixed::<BestArgs>(),
         hold_staged::<Find>(),
         hold_staged::<Append>(),
+        hold_staged::<RowRead>(),
+        hold_staged::<Block>(),
+        hold_staged::<Predict>(),
     ];
-    assert_eq!(counts, [307, 158, 134, 178, 461, 545]);
+    assert_eq!(counts, [307, 158, 134, 178, 461, 545, 0, 0, 0]);
 }
 
 #[test]
