@@ -87,8 +87,12 @@ fn search_grid_out_of_range() {
     assert_eq!(at(grid(5, 5, 2, 2, 3)), context_2(-128));
     // The block one row below the frame: the cells above it are inside, place two is not.
     assert_eq!(at(grid(2, 1, 2, 2, 3)).context, 5);
-    // Rows beyond 8192.
-    assert_eq!(at(grid(8193, 0, 8194, 2, 3)).pair, [[0, 0]; 2]);
+    // More than 8192 rows.
+    let tall = SearchArgs {
+        grid: grid(8192, 0, 8193, 1, 3),
+        ..search()
+    };
+    assert_eq!(door::find_mv_refs(&intra_tables(8193), &tall).context, 5);
 }
 
 /// Refusal 2, the tile beyond the frame or not around the block. With the lent tables a column
