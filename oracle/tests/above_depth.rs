@@ -1,6 +1,6 @@
 //! "Samples are 16-bit and may exceed the depth. The definition clips them. The Rust's copying path
-//! passes them on: a difference to record." Three of the Rust's ways differ from the definition, all
-//! of them at columns of horizontal phase 0; the smallest input of each stands here.
+//! passes them on: a difference to record." Three of the Rust's ways differ from the definition,
+//! all of them at columns of horizontal phase 0; the smallest input of each stands here.
 
 mod common;
 

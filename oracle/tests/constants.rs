@@ -131,7 +131,7 @@ fn contexts_are_those_of_the_search() {
     }
 }
 
-/// Sub-block columns, by the search: a neighbour above has column offset 0, one to the left has not.
+/// Sub-block columns, by the search: a neighbour above has column offset 0, one to the left -1.
 #[test]
 fn sub_blocks_are_those_of_the_search() {
     let columns = tables::sub_block_columns();

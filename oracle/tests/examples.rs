@@ -88,8 +88,8 @@ fn clamp_high() {
     );
 }
 
-/// The context of an 8 by 8 block at (1, 1) of a frame of 2 by 2 cells: place one is the cell above,
-/// place two the one to the left.
+/// The context of an 8 by 8 block at (1, 1) of a frame of 2 by 2 cells: place one is the cell
+/// above, place two the one to the left.
 fn context_of(above: u8, left: u8) -> u8 {
     let mut tables = intra_tables(4);
     (tables.modes[1], tables.modes[2]) = (above, left);
@@ -103,8 +103,8 @@ fn context_of(above: u8, left: u8) -> u8 {
     door::find_mv_refs(&tables, &a).context
 }
 
-/// "Modes of places one and two: 12 and 12 give context 0; 12 and 10, 1; 12 and 13, 3; 13 and 13, 4;
-/// 0 and 13, 5; 5 and 5, 6."
+/// "Modes of places one and two: 12 and 12 give context 0; 12 and 10, 1; 12 and 13, 3; 13 and 13,
+/// 4; 0 and 13, 5; 5 and 5, 6."
 #[test]
 fn contexts() {
     let pairs = [(12, 12), (12, 10), (12, 13), (13, 13), (0, 13), (5, 5)];
@@ -135,8 +135,8 @@ fn context_without_neighbours() {
     assert_eq!(door::find_mv_refs(&intra_tables(1), &a), expected);
 }
 
-/// "Sub-block 3, block vectors and search pair all equal to c: c and zero." The pair is equal by the
-/// clamp: both candidates lie beyond the frame.
+/// "Sub-block 3, block vectors and search pair all equal to c: c and zero." The pair is equal by
+/// the clamp: both candidates lie beyond the frame.
 #[test]
 fn sub_block_three_all_equal() {
     let mut tables = intra_tables(4);

@@ -1,5 +1,6 @@
 //! With samples within the depth, the Rust's fast path, its generic form and document 01's
-//! definition in plain Rust give the same samples, whatever the path that the Rust takes.
+//! definition in plain Rust give the same samples, whatever the way that the Rust takes; and its
+//! driver does so from a flat plane and from the decoder's own storage.
 
 mod common;
 
@@ -166,6 +167,29 @@ fn blocks_agree() {
     assert!(met.values().all(|&times| times >= 20), "{met:?}");
 }
 
+/// The largest block at the largest step: 134 rows of 64 columns between the passes, as document 01
+/// has it. The Rust takes them from the heap; the room that its driver lends holds 71 rows.
+#[test]
+fn largest_scaled_block() {
+    let mut random = Random(5);
+    let mut from = random_reference(&mut random, 12);
+    from.bands = random_bands(&mut random, 150, 150, 12);
+    from.at = Scaled {
+        start_x: 15,
+        start_y: 15,
+        step_x: 32,
+        step_y: 32,
+    };
+    let a = BlockArgs {
+        depth: 12,
+        ..common::block(from, 2, 64, 64)
+    };
+    assert_eq!(
+        answer(door::block_inter_predict, &a),
+        answer(plain::block_inter_predict, &a)
+    );
+}
+
 fn random_frame_reference(random: &mut Random, a: &PredictArgs) -> FrameReference {
     let other = |random: &mut Random, size: i32| match random.chance(50) {
         true => size,
@@ -250,11 +274,16 @@ fn predictions_agree() {
         let a = random_prediction(&mut random);
         cut_off += usize::from(a.x as usize + a.w > a.dst_width);
         scaled += usize::from(a.refs[0].frame_width != a.frame_width);
-        let mut by_rust = vec![MARK; a.dst_width * a.dst_height];
-        let mut by_plain = by_rust.clone();
+        let before = vec![MARK; a.dst_width * a.dst_height];
+        let [mut by_rust, mut by_bands, mut by_plain] = [(); 3].map(|_| before.clone());
         door::predict_inter(&a, &mut by_rust);
+        door::predict_inter_banded(&a, &mut by_bands);
         plain::predict_inter(&a, &mut by_plain);
         assert!(by_rust == by_plain, "prediction {n} differs: {a:?}");
+        assert!(
+            by_rust == by_bands,
+            "prediction {n} differs in the decoder's storage: {a:?}"
+        );
     }
     println!("of {PREDICTIONS}, cut off at the right edge {cut_off}, scaled {scaled}");
     assert!(cut_off >= 100 && scaled >= 100);
