@@ -172,9 +172,8 @@ fn blocks_agree() {
 #[test]
 fn largest_scaled_block() {
     let mut random = Random(5);
-    let mut from = random_reference(&mut random, 12);
-    from.bands = random_bands(&mut random, 150, 150, 12);
-    from.at = Scaled {
+    let bands = random_bands(&mut random, 150, 150, 12);
+    let at = Scaled {
         start_x: 15,
         start_y: 15,
         step_x: 32,
@@ -182,7 +181,7 @@ fn largest_scaled_block() {
     };
     let a = BlockArgs {
         depth: 12,
-        ..common::block(from, 2, 64, 64)
+        ..common::block(Reference { bands, at }, 2, 64, 64)
     };
     assert_eq!(
         answer(door::block_inter_predict, &a),
