@@ -1,6 +1,7 @@
 //! The test door: each bought call in document 01's terms, answered by the Rust as it is. The door
 //! judges nothing: what the Rust panics on panics here, what it answers unjudged is answered.
 
+mod driver;
 mod rows;
 mod source;
 pub mod tables;
@@ -8,10 +9,9 @@ pub mod tables;
 use crate::block_inter_pred::{self, SampleRows};
 use crate::frame_buf::Px;
 use crate::inter_mv::{self, BlockGrid, ScaleGeom};
-use crate::inter_pred::{self, InterPredArgs, RefPlane, RefPlanes};
-use crate::intra::Plane;
 use crate::mv_ref::MvRefGeometry;
 use crate::terms::*;
+pub use driver::{predict_inter, predict_inter_banded};
 use rows::BandRows;
 use source::LentTables;
 
@@ -100,8 +100,8 @@ pub fn find_best_ref_mvs(a: &BestArgs) -> [Vector; 2] {
     geometry(&a.grid, &a.tile).find_best_ref_mvs(a.pair, a.high_precision)
 }
 
-/// Block prediction by the Rust's fast path, `block_inter_predict_into`, as the driver runs it: list
-/// 0 straight into the output, list 1 beside it and averaged onto it.
+/// Block prediction by the Rust's fast path, `block_inter_predict_into`, as the driver runs it:
+/// list 0 straight into the output, list 1 beside it and averaged onto it.
 pub fn block_inter_predict(a: &BlockArgs, out: &mut [u16]) {
     predict_into(a, &a.refs[0], out, a.stride);
     if a.average {
@@ -170,56 +170,6 @@ fn average_onto(a: &BlockArgs, second: &[i32], out: &mut [u16]) {
             *o = ((i32::from(*o) + b + 1) >> 1) as u16;
         }
     }
-}
-
-/// The whole prediction by the Rust's own driver. It takes the plane's size from the frame's, so
-/// the width and height of the bands are not looked at.
-pub fn predict_inter(a: &PredictArgs, dst: &mut [u16]) {
-    let flat = [0, 1].map(|i| rows::join(&a.refs[i].bands));
-    let list = [0, 1].map(|i| {
-        let r = &a.refs[i];
-        (i == 0 || a.average).then_some(RefPlane {
-            samples: &flat[i],
-            stride: r.bands.stride,
-            ref_frame_width: r.frame_width,
-            ref_frame_height: r.frame_height,
-            bands: None,
-        })
-    });
-    // The reference's sizes in the geometry are the Rust's leftovers: it reads those of the lists.
-    let geom = ScaleGeom {
-        ref_frame_width: 0,
-        ref_frame_height: 0,
-        frame_width: a.frame_width,
-        frame_height: a.frame_height,
-        subsampling_x: a.sub_x,
-        subsampling_y: a.sub_y,
-    };
-    let args = InterPredArgs {
-        plane: a.plane,
-        x: a.x,
-        y: a.y,
-        w: a.w,
-        h: a.h,
-        block_idx: a.block,
-        interp_filter: a.filter,
-        bit_depth: a.depth,
-        is_compound: a.average,
-    };
-    let mut plane = Plane::new(a.dst_width, a.dst_height);
-    let held = &mut dst[..a.dst_width * a.dst_height];
-    plane.samples_mut().copy_from_slice(held);
-    inter_pred::predict_inter(
-        &mut plane,
-        &args,
-        &block_grid(&a.grid),
-        &geom,
-        &a.vectors,
-        &RefPlanes { list },
-        a.sub_x,
-        a.sub_y,
-    );
-    held.copy_from_slice(plane.samples());
 }
 
 fn block_grid(g: &Grid) -> BlockGrid {

@@ -1,6 +1,6 @@
-//! Document 01's section 'Samples' in plain Rust, sentence by sentence and with no thought of speed:
+//! Document 01's section 'Samples' in plain Rust, sentence by sentence, with no thought of speed:
 //! signed positions, each column and each row held, both passes always done and clipped. It is not
-//! written from the Rust; only the taps are the Rust's table, as that section says.
+//! written from the Rust; only the taps are taken from it.
 
 use crate::block_inter_pred::SUBPEL_FILTERS;
 use crate::door;
@@ -25,8 +25,8 @@ pub fn block_inter_predict(a: &BlockArgs, out: &mut [u16]) {
     }
 }
 
-/// Vectors, starts and steps are the door's; samples and the part that is written are document 01's:
-/// "a reference's chroma size, where halved, is rounded up", "only the part of the block inside".
+/// Vectors, starts and steps are the door's; samples and the part written are document 01's: "a
+/// reference's chroma size, where halved, is rounded up", "only the part of the block inside".
 pub fn predict_inter(a: &PredictArgs, dst: &mut [u16]) {
     let kernel = Kernel {
         filter: a.filter,

@@ -1,7 +1,7 @@
 // CUT for the oracle from src/mv.rs of OxideAV/oxideav-vp9 at commit 96a6496c27 (MIT, see NOTICE).
-// Kept, word for word: use_mv_hp, which find_best_ref_mvs asks, and its threshold. Left out: reading
-// vectors from the bitstream, which is not bought and leans on files that were not given (bool_coder,
-// compressed, mode_info).
+// Kept, word for word: use_mv_hp, which find_best_ref_mvs asks, and its threshold. Left out:
+// reading vectors from the bitstream, which is not bought and leans on files that were not given
+// (bool_coder, compressed, mode_info).
 
 /// `COMPANDED_MVREF_THRESH = 8` per §3 (`vp9-spec.txt` line 514).
 /// Threshold (in full-pel units, i.e. after a `>> 3` from the eighth-pel

@@ -20,7 +20,12 @@ pub fn plane(width: usize, height: usize, samples: &[u16]) -> Bands {
     }
 }
 
-pub const UNSCALED: Scaled = Scaled { start_x: 0, start_y: 0, step_x: 16, step_y: 16 };
+pub const UNSCALED: Scaled = Scaled {
+    start_x: 0,
+    start_y: 0,
+    step_x: 16,
+    step_y: 16,
+};
 
 pub fn reference(bands: Bands, at: Scaled) -> Reference {
     Reference { bands, at }
@@ -29,7 +34,15 @@ pub fn reference(bands: Bands, at: Scaled) -> Reference {
 /// One reference, depth 8, output rows without a gap.
 pub fn block(from: Reference, filter: usize, w: usize, h: usize) -> BlockArgs {
     let refs = [from, Reference::default()];
-    BlockArgs { refs, average: false, filter, depth: 8, w, h, stride: w }
+    BlockArgs {
+        refs,
+        average: false,
+        filter,
+        depth: 8,
+        w,
+        h,
+        stride: w,
+    }
 }
 
 /// The answer of a block call into an output that held nothing but `MARK`.
@@ -43,7 +56,13 @@ pub const MARK: u16 = 0xaaaa;
 
 /// A lone cell's block, 8 by 8, of a frame of `rows` by `cols` cells.
 pub fn grid(mi_row: i32, mi_col: i32, mi_rows: i32, mi_cols: i32, mi_size: u8) -> Grid {
-    Grid { mi_row, mi_col, mi_rows, mi_cols, mi_size }
+    Grid {
+        mi_row,
+        mi_col,
+        mi_rows,
+        mi_cols,
+        mi_size,
+    }
 }
 
 /// Tables of `cells` intra cells, the previous frame's included.
@@ -83,7 +102,10 @@ pub fn try_quietly<T>(f: impl FnOnce() -> T) -> Result<T, String> {
     QUIET.set(false);
     result.map_err(|payload| match payload.downcast::<String>() {
         Ok(message) => *message,
-        Err(payload) => payload.downcast_ref::<&str>().expect("a message").to_string(),
+        Err(payload) => payload
+            .downcast_ref::<&str>()
+            .expect("a message")
+            .to_string(),
     })
 }
 
