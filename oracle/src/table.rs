@@ -304,7 +304,7 @@ fn no_partner(plane: usize, mi_size: u8, block: usize, sub_x: bool, sub_y: bool)
 fn wrong_grid(g: &Grid) -> bool {
     !(1..=8192).contains(&g.mi_rows)
         || !(1..=8192).contains(&g.mi_cols)
-        || !(0 <= g.mi_row && g.mi_row < g.mi_rows)
+        || !(0..g.mi_rows).contains(&g.mi_row)
 }
 
 /// "not 0 <= tile start <= mi_col < tile end <= mi_cols"
@@ -460,4 +460,266 @@ fn wrong_vector(v: &Vector) -> bool {
 /// "for the scaling call, whose vector counts sixteenths, outside -65534..65534"
 fn wrong_scaled_vector(v: &Vector) -> bool {
     v.iter().any(|c| !(-65534..=65534).contains(c))
+}
+
+/// Each boundary from both sides is a test of the cases (`cases::tests`), which have them all.
+#[cfg(test)]
+mod tests {
+    use super::*;
+    use crate::door::tables;
+
+    #[test]
+    fn places_are_those_of_the_rust() {
+        assert_eq!(
+            PLACES.as_flattened().as_flattened(),
+            tables::place_offsets()
+        );
+    }
+
+    #[test]
+    fn extents_of_planes() {
+        for (frame, halved) in [(1, 1), (2, 1), (3, 2), (65535, 32768), (65536, 32768)] {
+            assert_eq!(plane_extent(frame, 0, true), frame);
+            assert_eq!(plane_extent(frame, 1, false), frame);
+            assert_eq!(plane_extent(frame, 1, true), halved);
+            assert_eq!(plane_extent(frame, 2, true), halved);
+        }
+    }
+
+    #[test]
+    fn needs_of_bands() {
+        assert_eq!(band_need(0, 7, 5), 0);
+        assert_eq!(band_need(1, 7, 5), 5);
+        assert_eq!(band_need(3, 7, 5), 19);
+        assert_eq!(band_need(65536, 131_072, 65536), 65535 * 131_072 + 65536);
+    }
+
+    /// One mend after another: the number that is left, and what mends it.
+    type Mends<A> = Vec<(u32, fn(&mut A))>;
+
+    /// "Where several apply, the lowest number is given": wrong in every way, then mended from the
+    /// lowest number up.
+    fn mend<A>(mut a: A, mends: Mends<A>, number: impl Fn(&A) -> u32) {
+        for (left, set) in mends {
+            assert_eq!(number(&a), left);
+            set(&mut a);
+        }
+        assert_eq!(number(&a), ACCEPTED);
+    }
+
+    fn wrong_vectors() -> BlockVectors {
+        [[[0, -32768], [0, 0], [0, 0], [0, 0]], [[0, 0]; 4]]
+    }
+
+    #[test]
+    fn lowest_of_select_mv() {
+        let wrong = SelectArgs {
+            vectors: wrong_vectors(),
+            plane: 3,
+            ..SelectArgs::default()
+        };
+        let mends: Mends<SelectArgs> = vec![
+            (1, |a| (a.plane, a.block, a.sub_x) = (1, 3, true)),
+            (1, |a| a.mi_size = 3),
+            (9, |a| a.vectors[0][0][1] = -32767),
+        ];
+        mend(wrong, mends, select_mv);
+    }
+
+    #[test]
+    fn lowest_of_clamp_mv() {
+        let wrong = ClampArgs {
+            plane: 3,
+            vector: [0, 32768],
+            ..ClampArgs::default()
+        };
+        let mends: Mends<ClampArgs> = vec![
+            (1, |a| (a.plane, a.grid.mi_size) = (0, 13)),
+            (1, |a| a.grid.mi_size = 12),
+            (2, |a| (a.grid.mi_rows, a.grid.mi_cols) = (1, 0)),
+            (2, |a| a.grid.mi_cols = 1),
+            (9, |a| a.vector[1] = 32767),
+        ];
+        mend(wrong, mends, clamp_mv);
+    }
+
+    #[test]
+    fn lowest_of_scale_mv() {
+        let wrong = ScaleArgs {
+            plane: 3,
+            x: -1,
+            y: 65536,
+            vector: [65535, 0],
+            ..ScaleArgs::default()
+        };
+        let mends: Mends<ScaleArgs> = vec![
+            (1, |a| a.plane = 2),
+            (5, |a| (a.frame_width, a.ref_width) = (100, 201)),
+            (5, |a| (a.frame_height, a.ref_height) = (17, 1)),
+            (5, |a| a.ref_width = 200),
+            (5, |a| a.frame_height = 16),
+            (6, |a| a.x = 0),
+            (6, |a| a.y = 65535),
+            (9, |a| a.vector[0] = 65534),
+        ];
+        mend(wrong, mends, scale_mv);
+    }
+
+    #[test]
+    fn lowest_of_find_best_ref_mvs() {
+        let mut wrong = BestArgs {
+            pair: [[0, 0], [0, 40000]],
+            ..BestArgs::default()
+        };
+        wrong.grid.mi_size = 13;
+        let mends: Mends<BestArgs> = vec![
+            (1, |a| a.grid.mi_size = 0),
+            (2, |a| (a.grid.mi_rows, a.grid.mi_cols) = (1, 1)),
+            (2, |a| a.tile.end = 1),
+            (9, |a| a.pair[1][1] = 32767),
+        ];
+        mend(wrong, mends, find_best_ref_mvs);
+    }
+
+    /// Two cells in a row, the second asked for; the first has mode 14.
+    fn two_cells() -> (AppendArgs, Tables) {
+        let tables = Tables {
+            modes: vec![14, 0],
+            frames: vec![0; 4],
+            vectors: vec![0; 8],
+            sub_vectors: vec![0; 31],
+            prev_frames: vec![0; 4],
+            prev_vectors: vec![0; 7],
+        };
+        let mut a = AppendArgs::default();
+        a.search.grid.mi_col = 1;
+        a.search.use_prev = true;
+        a.search.block = 4;
+        a.block_vectors[3][0] = -40000;
+        (a, tables)
+    }
+
+    #[test]
+    fn lowest_of_the_searches() {
+        let mends: Mends<(AppendArgs, Tables)> = vec![
+            (1, |(a, _)| a.search.block = 0),
+            (2, |(a, _)| {
+                (a.search.grid.mi_rows, a.search.grid.mi_cols) = (1, 2)
+            }),
+            (2, |(a, _)| a.search.tile = Tile { start: 0, end: 2 }),
+            (3, |(a, _)| a.search.target = 3),
+            (7, |(_, t)| t.sub_vectors.push(0)),
+            (7, |(_, t)| t.prev_vectors.push(-32768)),
+            (8, |(_, t)| t.modes[0] = 13),
+            (8, |(_, t)| t.prev_vectors[7] = -32767),
+            (9, |(a, _)| a.block_vectors[3][0] = 0),
+        ];
+        mend(two_cells(), mends, |(a, t)| append_sub8x8_mvs(a, t));
+    }
+
+    #[test]
+    fn sub_block_minus_1_is_for_the_search_alone() {
+        let (mut a, mut tables) = two_cells();
+        (a.search.grid.mi_rows, a.search.grid.mi_cols) = (1, 2);
+        a.search.tile = Tile { start: 0, end: 2 };
+        (a.search.target, a.search.use_prev, a.search.block) = (1, false, -1);
+        tables.modes[0] = 0;
+        tables.sub_vectors.push(0);
+        assert_eq!(find_mv_refs(&a.search, &tables), ACCEPTED);
+        assert_eq!(append_sub8x8_mvs(&a, &tables), BLOCK);
+        a.search.block = -2;
+        assert_eq!(find_mv_refs(&a.search, &tables), BLOCK);
+    }
+
+    #[test]
+    fn lowest_of_row_read() {
+        let mends: Mends<(Bands, usize)> = vec![
+            (5, |(b, _)| b.width = 3),
+            (5, |(b, _)| b.height = 2),
+            (6, |(_, row)| *row = 1),
+            (7, |(b, _)| b.stride = 3),
+            (7, |(b, _)| b.upper = vec![0; 3]),
+            (7, |(b, _)| b.lower = vec![0; 3]),
+        ];
+        let wrong = Bands {
+            upper_rows: 1,
+            ..Bands::default()
+        };
+        mend((wrong, 2), mends, |(b, row)| row_read(b, *row));
+    }
+
+    fn one_sample() -> Bands {
+        Bands {
+            width: 1,
+            height: 1,
+            stride: 1,
+            upper_rows: 0,
+            upper: vec![],
+            lower: vec![0],
+        }
+    }
+
+    #[test]
+    fn lowest_of_block_inter_predict() {
+        let mends: Mends<(BlockArgs, usize, usize)> = vec![
+            (1, |(a, ..)| (a.w, a.h) = (64, 2)),
+            (4, |(a, ..)| a.depth = 10),
+            (5, |(a, ..)| a.refs = [0, 1].map(|_| Reference::default())),
+            (5, |(a, ..)| a.refs[0].bands = one_sample()),
+            (5, |(a, ..)| a.refs[1].bands = one_sample()),
+            (6, |(a, ..)| {
+                (a.refs[0].at.step_x, a.refs[0].at.step_y) = (1, 32)
+            }),
+            (6, |(a, ..)| {
+                (a.refs[1].at.step_x, a.refs[1].at.step_y) = (32, 1)
+            }),
+            (7, |(a, ..)| a.stride = 65),
+            (7, |(_, out, _)| *out = 65 + 64),
+            (7, |(.., room)| *room = 8576),
+        ];
+        let wrong = BlockArgs {
+            average: true,
+            ..BlockArgs::default()
+        };
+        mend((wrong, 0, 0), mends, |(a, out, room)| {
+            block_inter_predict(a, *out, *room)
+        });
+    }
+
+    #[test]
+    fn lowest_of_predict_inter() {
+        let mends: Mends<(PredictArgs, usize, usize)> = vec![
+            (1, |(a, ..)| (a.w, a.h) = (1, 64)),
+            (2, |(a, ..)| (a.grid.mi_rows, a.grid.mi_cols) = (8192, 8192)),
+            (4, |(a, ..)| a.depth = 12),
+            (5, |(a, ..)| (a.frame_width, a.frame_height) = (1, 1)),
+            (5, |(a, ..)| {
+                (a.refs[0].frame_width, a.refs[0].frame_height) = (2, 1)
+            }),
+            (5, |(a, ..)| {
+                (a.refs[1].frame_width, a.refs[1].frame_height) = (1, 3)
+            }),
+            (5, |(a, ..)| a.refs[1].frame_height = 1),
+            (6, |(a, ..)| a.x = 0),
+            (7, |(a, ..)| a.refs[0].bands = one_sample()),
+            // Two samples wide.
+            (7, |(a, ..)| {
+                (a.refs[0].bands.stride, a.refs[0].bands.lower) = (2, vec![0; 2])
+            }),
+            (7, |(a, ..)| a.refs[1].bands = one_sample()),
+            (7, |(a, ..)| (a.dst_width, a.dst_height) = (3, 2)),
+            (7, |(_, dst, _)| *dst = 6),
+            (7, |(.., room)| *room = 8576),
+            (9, |(a, ..)| a.vectors[0][0][1] = 0),
+        ];
+        let wrong = PredictArgs {
+            x: -1,
+            average: true,
+            vectors: wrong_vectors(),
+            ..PredictArgs::default()
+        };
+        mend((wrong, 0, 0), mends, |(a, dst, room)| {
+            predict_inter(a, *dst, *room)
+        });
+    }
 }

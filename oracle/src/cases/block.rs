@@ -4,7 +4,7 @@ use super::bytes::{Read, Reader, Writer};
 use super::edges::*;
 use super::planes::*;
 use super::rng::Rng;
-use super::staged::Staged;
+use super::staged::{Numbered, Staged};
 use crate::table::{LARGEST_STRIDE, ROOM};
 use crate::terms::{Bands, BlockArgs, Reference, Scaled};
 use crate::{door, plain, table};
@@ -40,7 +40,7 @@ impl Lends for Query {
 }
 
 impl Query {
-    fn args(&self, scene: &Scene) -> BlockArgs {
+    pub(super) fn args(&self, scene: &Scene) -> BlockArgs {
         let refs = [0, 1].map(|list| Reference {
             bands: scene.bands(list, self.width[list], self.height[list], &self.lent[list]),
             at: self.at[list],
@@ -69,12 +69,12 @@ impl Staged for Block {
     type Query = Query;
     const LENGTH: usize = 160;
 
-    fn boundaries() -> Vec<(Scene, Vec<(u32, Query)>)> {
+    fn boundaries() -> Vec<(Scene, Numbered<Query>)> {
         vec![small_stage(), large_stage(), deep_stage()]
     }
 
     fn random(rng: &mut Rng) -> (Scene, Vec<Query>) {
-        let bits = rng.pick(&[8, 8, 10, 12, 12, 16]);
+        let bits = rng.pick(&[8, 8, 8, 10, 10, 12, 12, 16]);
         let scene = Scene::chance(rng, bits, 1024);
         (scene, (0..48).map(|_| chance_query(rng, bits)).collect())
     }
@@ -107,7 +107,7 @@ impl Staged for Block {
         q.depth = r.u32()?;
         q.average = r.bool()?;
         r.take(3)?;
-        q.out = r.len()?;
+        q.out = read_output_length(r)?;
         q.room = r.len()?;
         Ok(q)
     }
@@ -216,7 +216,7 @@ fn base() -> Query {
     q
 }
 
-fn small_stage() -> (Scene, Vec<(u32, Query)>) {
+fn small_stage() -> (Scene, Numbered<Query>) {
     let mut edges = Vec::new();
     edges.extend(side_edges());
     edges.extend(filter_edges());
@@ -348,7 +348,7 @@ fn phase_edges() -> Vec<Edge<Query>> {
 }
 
 /// The largest planes, read at their end.
-fn large_stage() -> (Scene, Vec<(u32, Query)>) {
+fn large_stage() -> (Scene, Numbered<Query>) {
     let scene = Scene::chance(&mut Rng::new(2, 300), 8, LONGEST);
     let mut queries = Vec::new();
     for (width, height, stride, upper_rows) in LARGEST_PLANES {
@@ -368,7 +368,7 @@ fn large_stage() -> (Scene, Vec<(u32, Query)>) {
 }
 
 /// Samples above the depth, at whole and at other positions.
-fn deep_stage() -> (Scene, Vec<(u32, Query)>) {
+fn deep_stage() -> (Scene, Numbered<Query>) {
     let scene = Scene::chance(&mut Rng::new(3, 300), 16, 1024);
     let mut queries = Vec::new();
     for depth in [8, 10, 12] {
@@ -461,5 +461,32 @@ fn spoil(rng: &mut Rng, q: &mut Query) {
         6 => q.lent[list].lower = 0,
         7 => q.out -= 7.min(q.out),
         _ => q.room -= 1,
+    }
+}
+
+#[cfg(test)]
+mod tests {
+    use super::super::tests::stages;
+    use super::*;
+
+    /// The Rust and document 01's definition, over every accepted case within the depth.
+    #[test]
+    fn door_and_plain_agree() {
+        let mut compared = 0;
+        for (scene, queries) in &stages::<Block>(100) {
+            for q in queries {
+                let args = q.args(scene);
+                if Block::number(scene, q) != 0 || above_depth(&args) {
+                    continue;
+                }
+                let before: Vec<u16> = (0..q.out).map(before).collect();
+                let mut both = [before.clone(), before];
+                predict(&args, false, &mut both[0]);
+                predict(&args, true, &mut both[1]);
+                assert_eq!(both[0], both[1], "{q:?}");
+                compared += 1;
+            }
+        }
+        assert!(compared > 3000, "{compared}");
     }
 }

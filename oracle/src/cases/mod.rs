@@ -17,6 +17,8 @@ mod select;
 mod staged;
 
 #[cfg(test)]
+mod slips;
+#[cfg(test)]
 mod tests;
 
 use crate::terms::{BestArgs, ClampArgs, ScaleArgs, SelectArgs};

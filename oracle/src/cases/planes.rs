@@ -13,6 +13,9 @@ const HELD: usize = 1024;
 /// The longest band that any query lends.
 pub const LONGEST: usize = 65_536;
 
+/// The longest output or destination; one more than a plane can be wide.
+const LONGEST_OUTPUT: usize = 65_537;
+
 #[derive(Clone, Debug)]
 pub struct Scene {
     /// The longest band that its queries lend.
@@ -145,9 +148,8 @@ pub fn lent_edges<A: Lends + 'static>(list: usize, height: usize) -> Vec<Edge<A>
         let (width, _) = a.size(list);
         refit(a, list, width as usize, height / 2);
     }));
-    for number_and_less in [(7, 1), (7, 2)] {
-        let (number, less) = number_and_less;
-        edges.push(edge(number, move |a: &mut A| {
+    for less in [1, 2] {
+        edges.push(edge(7, move |a: &mut A| {
             let (width, _) = a.size(list);
             a.lent(list).stride = width as usize - less;
         }));
@@ -240,6 +242,14 @@ pub fn write_output(number: u32, out: &[u16], w: &mut Writer) -> Vec<u16> {
     w.len(first);
     w.len(run.len());
     run.to_vec()
+}
+
+pub fn read_output_length(r: &mut Reader) -> Read<usize> {
+    let n = r.len()?;
+    if n > LONGEST_OUTPUT {
+        return Err(format!("an output of {n} samples"));
+    }
+    Ok(n)
 }
 
 /// Bytes of a run of `samples`, padded.

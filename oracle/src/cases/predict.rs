@@ -6,7 +6,7 @@ use super::edges::*;
 use super::planes::*;
 use super::rng::Rng;
 use super::scale::ratios;
-use super::staged::Staged;
+use super::staged::{Numbered, Staged};
 use crate::table::{ROOM, plane_extent};
 use crate::terms::{BlockVectors, FrameReference, Grid, PredictArgs};
 use crate::{door, plain, table};
@@ -67,12 +67,12 @@ impl Staged for Predict {
     type Query = Query;
     const LENGTH: usize = 248;
 
-    fn boundaries() -> Vec<(Scene, Vec<(u32, Query)>)> {
+    fn boundaries() -> Vec<(Scene, Numbered<Query>)> {
         vec![small_stage(), large_stage(), deep_stage()]
     }
 
     fn random(rng: &mut Rng) -> (Scene, Vec<Query>) {
-        let bits = rng.pick(&[8, 8, 10, 12, 12, 16]);
+        let bits = rng.pick(&[8, 8, 8, 10, 10, 12, 12, 16]);
         let scene = Scene::chance(rng, bits, 1024);
         (scene, (0..48).map(|_| chance_query(rng, bits)).collect())
     }
@@ -118,7 +118,7 @@ impl Staged for Predict {
         a.sub_y = r.bool()?;
         a.average = r.bool()?;
         r.take(4)?;
-        q.dst = r.len()?;
+        q.dst = read_output_length(r)?;
         q.room = r.len()?;
         Ok(q)
     }
@@ -134,7 +134,7 @@ impl Staged for Predict {
         w.len(q.room);
         let mut dst: Vec<u16> = (0..q.dst).map(before).collect();
         if number == 0 {
-            predict(&args, above, &mut dst);
+            predict(args, above, &mut dst);
         }
         let run = write_output(number, &dst, w);
         run.iter().for_each(|&s| w.u16(s));
@@ -181,12 +181,16 @@ fn write_args(q: &Query, w: &mut Writer) {
     w.bool(a.average);
 }
 
-/// As in block prediction: above the depth the definition answers, not the Rust.
-fn predict(args: &PredictArgs, above: bool, dst: &mut [u16]) {
+/// As in block prediction: above the depth the definition answers, not the Rust. What list 1 lends
+/// is no argument without averaging; the door would join its bands all the same.
+fn predict(mut args: PredictArgs, above: bool, dst: &mut [u16]) {
+    if !args.average {
+        args.refs[1] = FrameReference::default();
+    }
     if above {
-        plain::predict_inter(args, dst);
+        plain::predict_inter(&args, dst);
     } else {
-        door::predict_inter(args, dst);
+        door::predict_inter(&args, dst);
     }
 }
 
@@ -237,7 +241,7 @@ fn base() -> Query {
     }
 }
 
-fn small_stage() -> (Scene, Vec<(u32, Query)>) {
+fn small_stage() -> (Scene, Numbered<Query>) {
     let mut edges = block_edges();
     edges.extend(grid_edges(|q: &mut Query| &mut q.args.grid));
     edges.extend(column_edges(|q: &mut Query| &mut q.args.grid));
@@ -398,7 +402,7 @@ fn chroma_edges() -> Vec<Edge<Query>> {
 }
 
 /// Frames, references and destinations of the largest sizes, and every ratio's boundary.
-fn large_stage() -> (Scene, Vec<(u32, Query)>) {
+fn large_stage() -> (Scene, Numbered<Query>) {
     let scene = Scene::chance(&mut Rng::new(2, 400), 8, LONGEST);
     let mut queries = Vec::new();
     for (number, frame, reference) in ratios() {
@@ -425,26 +429,33 @@ fn large_stage() -> (Scene, Vec<(u32, Query)>) {
     (scene, queries)
 }
 
-/// A frame of two rows, so that each band has one row; the other list's reference has its size.
+/// A frame of two rows, so that each band has one row; the other list's reference has its size. The
+/// block lies at the frame's right end, in a destination of one row.
 fn wide_query(number: u32, list: usize, frame: i32, reference: i32) -> Query {
     let mut q = base();
     (q.args.frame_width, q.args.frame_height) = (frame, 2);
     q.resize(1 - list, frame, 2);
     q.resize(list, reference, 2);
-    q.args.x = frame.clamp(8, 65_535) - 8;
+    let width = frame.clamp(8, 65_536);
+    (q.args.x, q.args.y) = (width - 8, 0);
+    (q.args.dst_width, q.args.dst_height) = (width as usize, 1);
+    q.dst = width as usize;
     if number == 0 {
         q.refit(1);
     }
     q
 }
 
-/// A frame of one column.
+/// The same of a frame of one column.
 fn high_query(number: u32, list: usize, frame: i32, reference: i32) -> Query {
     let mut q = base();
     (q.args.frame_width, q.args.frame_height) = (1, frame);
     q.resize(1 - list, 1, frame);
     q.resize(list, 1, reference);
-    q.args.y = frame.clamp(8, 65_535) - 8;
+    let height = frame.clamp(8, 65_536);
+    (q.args.x, q.args.y) = (0, height - 8);
+    (q.args.dst_width, q.args.dst_height) = (1, height as usize);
+    q.dst = height as usize;
     if number == 0 {
         q.refit(reference as usize / 2);
     }
@@ -452,7 +463,7 @@ fn high_query(number: u32, list: usize, frame: i32, reference: i32) -> Query {
 }
 
 /// Samples above the depth, at whole and at other positions.
-fn deep_stage() -> (Scene, Vec<(u32, Query)>) {
+fn deep_stage() -> (Scene, Numbered<Query>) {
     let scene = Scene::chance(&mut Rng::new(3, 400), 16, 1024);
     let mut queries = Vec::new();
     for depth in [8, 10, 12] {
@@ -480,7 +491,7 @@ fn chance_query(rng: &mut Rng, bits: u32) -> Query {
     a.filter = rng.size(0, 3);
     a.depth = chance_depth(rng, bits);
     (a.w, a.h) = (chance_side(rng), chance_side(rng));
-    (a.dst_width, a.dst_height) = (rng.size(1, 16), rng.size(1, 16));
+    (a.dst_width, a.dst_height) = (rng.size(1, 22), rng.size(1, 22));
     a.x = chance_place(rng, a.dst_width);
     a.y = chance_place(rng, a.dst_height);
     a.vectors = chance_vectors(rng);
@@ -503,8 +514,8 @@ fn chance_query(rng: &mut Rng, bits: u32) -> Query {
     q
 }
 
-/// Of a frame of at most 28: of its size, near 2:1, near 1:16, or between; at most 30, so that the
-/// bands of a scene suffice.
+/// Of a frame of at most 28: of its size, near 2:1, near 1:16, or between; at most 28 too, so that
+/// the bands of a scene suffice.
 fn chance_reference(rng: &mut Rng, frame: i32) -> i32 {
     let reference = match rng.below(6) {
         0..=2 => frame,
@@ -512,15 +523,15 @@ fn chance_reference(rng: &mut Rng, frame: i32) -> i32 {
         4 => (frame + 15) / 16,
         _ => rng.within((frame + 15) / 16, 2 * frame),
     };
-    reference.min(30)
+    reference.min(28)
 }
 
 fn chance_place(rng: &mut Rng, extent: usize) -> i32 {
-    match rng.below(10) {
+    match rng.below(40) {
         0 => rng.within(0, 65_535),
-        1 => rng.within(0, extent as i32 + 3),
-        2..=4 => 0,
-        _ => rng.within(0, extent as i32 / 4) * 4,
+        1..=3 => rng.within(0, extent as i32 + 3),
+        4..=12 => 0,
+        _ => rng.within(0, (extent as i32 - 1) / 4) * 4,
     }
 }
 
@@ -577,5 +588,32 @@ fn spoil(rng: &mut Rng, q: &mut Query) {
         6 => q.dst -= 5.min(q.dst),
         7 => q.room -= 1,
         _ => q.args.vectors[list][rng.size(0, 3)][0] = -32_768,
+    }
+}
+
+#[cfg(test)]
+mod tests {
+    use super::super::tests::stages;
+    use super::*;
+
+    /// The Rust and document 01's definition, over every accepted case within the depth.
+    #[test]
+    fn door_and_plain_agree() {
+        let mut compared = 0;
+        for (scene, queries) in &stages::<Predict>(100) {
+            for q in queries {
+                let args = q.args(scene);
+                if Predict::number(scene, q) != 0 || above_depth(q, &args) {
+                    continue;
+                }
+                let before: Vec<u16> = (0..q.dst).map(before).collect();
+                let mut both = [before.clone(), before];
+                predict(args.clone(), false, &mut both[0]);
+                predict(args, true, &mut both[1]);
+                assert_eq!(both[0], both[1], "{q:?}");
+                compared += 1;
+            }
+        }
+        assert!(compared > 3000, "{compared}");
     }
 }

@@ -5,7 +5,7 @@ use super::bytes::{Read, Reader, Writer};
 use super::edges::*;
 use super::planes::*;
 use super::rng::Rng;
-use super::staged::Staged;
+use super::staged::{Numbered, Staged};
 use crate::table;
 
 #[derive(Clone, Debug)]
@@ -38,7 +38,7 @@ impl Staged for RowRead {
     type Query = Query;
     const LENGTH: usize = 64;
 
-    fn boundaries() -> Vec<(Scene, Vec<(u32, Query)>)> {
+    fn boundaries() -> Vec<(Scene, Numbered<Query>)> {
         vec![small_stage(), large_stage()]
     }
 
@@ -101,7 +101,7 @@ fn place(query: &Query) -> (u32, usize) {
     }
 }
 
-fn small_stage() -> (Scene, Vec<(u32, Query)>) {
+fn small_stage() -> (Scene, Numbered<Query>) {
     let base = Query {
         width: 10,
         height: 8,
@@ -133,7 +133,7 @@ fn small_stage() -> (Scene, Vec<(u32, Query)>) {
     (scene, spread(&base, &edges))
 }
 
-fn large_stage() -> (Scene, Vec<(u32, Query)>) {
+fn large_stage() -> (Scene, Numbered<Query>) {
     let scene = Scene::chance(&mut Rng::new(2, 200), 16, LONGEST);
     let mut queries = Vec::new();
     for (width, height, stride, upper_rows) in LARGEST_PLANES {

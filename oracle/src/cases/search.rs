@@ -4,7 +4,7 @@
 use super::bytes::{Read, Reader, Writer};
 use super::rng::Rng;
 use super::search_scenes;
-use super::staged::Staged;
+use super::staged::{Numbered, Staged};
 use crate::terms::{AppendArgs, Tables, Vector};
 use crate::{door, table};
 
@@ -30,7 +30,7 @@ impl Scene {
         PER_CELL.map(|k| self.cells * k)
     }
 
-    fn lent(&self, lengths: &[usize; 6]) -> Tables {
+    pub(super) fn lent(&self, lengths: &[usize; 6]) -> Tables {
         fn repeat<T: Copy>(pattern: &[T], n: usize) -> Vec<T> {
             pattern.iter().copied().cycle().take(n).collect()
         }
@@ -60,7 +60,7 @@ impl Staged for Find {
     type Query = Query;
     const LENGTH: usize = 88;
 
-    fn boundaries() -> Vec<(Scene, Vec<(u32, Query)>)> {
+    fn boundaries() -> Vec<(Scene, Numbered<Query>)> {
         search_scenes::boundaries(-1)
     }
 
@@ -110,7 +110,7 @@ impl Staged for Append {
     type Query = Query;
     const LENGTH: usize = 120;
 
-    fn boundaries() -> Vec<(Scene, Vec<(u32, Query)>)> {
+    fn boundaries() -> Vec<(Scene, Numbered<Query>)> {
         search_scenes::boundaries(0)
     }
 

@@ -4,15 +4,17 @@
 use super::edges::*;
 use super::rng::Rng;
 use super::search::{CAPACITY, PER_CELL, Query, Scene};
+use super::staged::Numbered;
 use crate::table::PLACES;
 use crate::terms::{AppendArgs, Grid, SearchArgs, Tables, Tile, Vector};
 
-pub fn boundaries(least_block: i32) -> Vec<(Scene, Vec<(u32, Query)>)> {
+pub fn boundaries(least_block: i32) -> Vec<(Scene, Numbered<Query>)> {
     let mut scenes = vec![
         argument_stage(least_block),
         long_stage(),
         place_stage(),
         context_stage(),
+        equal_stage(least_block),
     ];
     scenes.extend(record_stages());
     scenes
@@ -45,7 +47,7 @@ fn base_query(scene: &Scene) -> Query {
 }
 
 /// Boundaries of the arguments and of the lengths of the tables.
-fn argument_stage(least_block: i32) -> (Scene, Vec<(u32, Query)>) {
+fn argument_stage(least_block: i32) -> (Scene, Numbered<Query>) {
     let scene = Scene {
         pattern: chance_tables(&mut Rng::new(1, 100), CAPACITY),
         cells: CAPACITY,
@@ -135,7 +137,7 @@ fn block_vector_edges() -> Vec<Edge<Query>> {
 }
 
 /// Grids of the largest extents, and a square one, with tables that are long enough or one short.
-fn long_stage() -> (Scene, Vec<(u32, Query)>) {
+fn long_stage() -> (Scene, Numbered<Query>) {
     let scene = Scene {
         pattern: chance_tables(&mut Rng::new(2, 100), 61),
         cells: 8192,
@@ -166,7 +168,7 @@ fn long_stage() -> (Scene, Vec<(u32, Query)>) {
 
 /// One illegal record in a grid of 8 by 10, at row 4, column 6, where every place of every size can
 /// find it; and the same blocks with a tile that leaves it out.
-fn place_stage() -> (Scene, Vec<(u32, Query)>) {
+fn place_stage() -> (Scene, Numbered<Query>) {
     let (rows, cols, row, col) = (8, 10, 4, 6);
     let mut pattern = chance_tables(&mut Rng::new(3, 100), CAPACITY);
     pattern.modes[(row * cols + col) as usize] = 14;
@@ -213,7 +215,7 @@ fn without_column(mut query: Query, col: i32) -> Query {
 
 /// An illegal record with a lower number's refusal beside it, and with a wrong vector, whose number
 /// is higher.
-fn lower_numbers(query: &Query) -> Vec<(u32, Query)> {
+fn lower_numbers(query: &Query) -> Numbered<Query> {
     let edges: [Edge<Query>; 5] = [
         edge(1, |q: &mut Query| q.args.search.grid.mi_size = 13),
         edge(2, |q: &mut Query| q.args.search.tile.start = -1),
@@ -231,7 +233,7 @@ fn lower_numbers(query: &Query) -> Vec<(u32, Query)> {
 
 /// Every two kinds of mode: a block of size 0 in the second of two rows counts the cell above it and
 /// the one before it, unless the tile begins with the block. Kind 11 counts as 10 does.
-fn context_stage() -> (Scene, Vec<(u32, Query)>) {
+fn context_stage() -> (Scene, Numbered<Query>) {
     const KINDS: [u8; 4] = [5, 10, 12, 13];
     let cols = 2 * KINDS.len() * KINDS.len();
     let mut pattern = chance_tables(&mut Rng::new(4, 100), 2 * cols);
@@ -266,9 +268,37 @@ fn context_stage() -> (Scene, Vec<(u32, Query)>) {
     (scene, queries)
 }
 
+/// Every vector of every record the same, and the block's four too: what is offered is that or its
+/// negation, and what is missing is zero.
+fn equal_stage(least_block: i32) -> (Scene, Numbered<Query>) {
+    let scene = Scene {
+        pattern: Tables {
+            modes: vec![13],
+            frames: vec![1, 2],
+            vectors: vec![6, -10, 6, -10],
+            sub_vectors: [6, -10].repeat(8),
+            prev_frames: vec![2, 3],
+            prev_vectors: vec![6, -10, 6, -10],
+        },
+        cells: CAPACITY,
+    };
+    let mut queries = Vec::new();
+    for (target, block) in (1..=3).flat_map(|t| (least_block..=3).map(move |b| (t, b))) {
+        for opposed in [false, true] {
+            let mut query = base_query(&scene);
+            query.args.block_vectors = [[6, -10]; 4];
+            let s = &mut query.args.search;
+            (s.target, s.block) = (target, block);
+            s.sign_bias = [false, opposed, false, opposed];
+            queries.push((0, query));
+        }
+    }
+    (scene, queries)
+}
+
 /// A single row of cells: a block of size 0 with a tile of two columns consults only the cell before
 /// it. Each such cell has one value at a boundary of what is legal.
-fn record_stages() -> Vec<(Scene, Vec<(u32, Query)>)> {
+fn record_stages() -> Vec<(Scene, Numbered<Query>)> {
     let mut stages = Vec::new();
     let current = current_values();
     // The last cell has no cell after it to ask from.
@@ -305,7 +335,7 @@ fn table_values(table: usize, values: &[(i16, u32)]) -> Vec<Value> {
     (0..PER_CELL[table]).flat_map(of).collect()
 }
 
-fn record_stage(values: &[Value], previous: bool) -> (Scene, Vec<(u32, Query)>) {
+fn record_stage(values: &[Value], previous: bool) -> (Scene, Numbered<Query>) {
     let mut pattern = chance_tables(&mut Rng::new(5, 100), CAPACITY);
     for (cell, value) in values.iter().enumerate() {
         put(&mut pattern, cell, value);

@@ -7,6 +7,9 @@ use super::rng::Rng;
 /// No scene has more queries.
 pub const MOST_QUERIES: usize = 64;
 
+/// Queries with the number that each was written to give.
+pub type Numbered<Q> = Vec<(u32, Q)>;
+
 pub trait Staged {
     type Scene;
     type Query: Clone + std::fmt::Debug;
@@ -14,8 +17,8 @@ pub trait Staged {
     /// Bytes of a query, without what follows it.
     const LENGTH: usize;
 
-    /// The boundaries with the number that each was written to give.
-    fn boundaries() -> Vec<(Self::Scene, Vec<(u32, Self::Query)>)>;
+    /// The boundaries of document 01's table.
+    fn boundaries() -> Vec<(Self::Scene, Numbered<Self::Query>)>;
 
     fn random(rng: &mut Rng) -> (Self::Scene, Vec<Self::Query>);
 
