@@ -48,7 +48,7 @@ fn record(frames: &[i8], vectors: &[i16], cell: usize) -> Record {
     })
 }
 
-/// Rows and columns of the places that are inside; None for those that are not.
+/// The offset and the cell of each place that is inside.
 fn places(a: &SearchArgs) -> [Option<([i32; 2], usize)>; 8] {
     let g = &a.grid;
     std::array::from_fn(|place| {

@@ -12,7 +12,12 @@ const UNMODIFIED: [(&str, u64); 6] = [
     ("mv_ref.rs", 0x9a20_f5eb_70f3_4bd5),
 ];
 
-const CUT: [&str; 3] = ["mv.rs", "partition.rs", "residual.rs"];
+/// The same of the items that were kept.
+const CUT: [(&str, u64); 3] = [
+    ("mv.rs", 0x27eb_5006_767e_7ca2),
+    ("partition.rs", 0x3f24_4a36_b117_ece4),
+    ("residual.rs", 0xeda2_8397_8274_c391),
+];
 
 fn ours(name: &str) -> String {
     let path = Path::new(env!("CARGO_MANIFEST_DIR"))
@@ -53,18 +58,28 @@ fn six_files_equal_the_originals() {
     }
 }
 
-/// Below its own comment and imports, a cut file is runs of whole lines of the original.
+/// A cut file without its own comment and imports.
+fn kept_items(name: &str) -> Vec<String> {
+    ours(name)
+        .split("\n\n")
+        .filter(|run| !run.starts_with("// CUT") && !run.starts_with("use "))
+        .map(|run| run.trim_end().to_string())
+        .collect()
+}
+
 #[test]
-fn cut_files_hold_the_originals_lines() {
+fn kept_items_have_their_digests() {
+    for (name, expected) in CUT {
+        assert_eq!(digest(&kept_items(name).join("\n\n")), expected, "{name}");
+    }
+}
+
+#[test]
+fn kept_items_are_whole_lines_of_the_originals() {
     let Some(folder) = originals() else { return };
-    for name in CUT {
+    for (name, _) in CUT {
         let original = std::fs::read_to_string(folder.join(name)).expect("an original");
-        let cut = ours(name);
-        let items: Vec<&str> = cut
-            .split("\n\n")
-            .filter(|run| !run.starts_with("// CUT") && !run.starts_with("use "))
-            .map(str::trim_end)
-            .collect();
+        let items = kept_items(name);
         assert!(!items.is_empty());
         for item in items {
             assert!(

@@ -54,7 +54,6 @@ pub fn answer(call: impl Fn(&BlockArgs, &mut [u16]), a: &BlockArgs) -> Vec<u16> 
 
 pub const MARK: u16 = 0xaaaa;
 
-/// A lone cell's block, 8 by 8, of a frame of `rows` by `cols` cells.
 pub fn grid(mi_row: i32, mi_col: i32, mi_rows: i32, mi_cols: i32, mi_size: u8) -> Grid {
     Grid {
         mi_row,
