@@ -116,20 +116,7 @@ impl Staged for Block {
         let args = q.args(scene);
         let number = table::block_inter_predict(&args, q.out, q.room);
         let above = number == 0 && above_depth(&args);
-        for list in 0..2 {
-            w.i32(q.width[list]);
-            w.i32(q.height[list]);
-            q.lent[list].write(w);
-            let at = &q.at[list];
-            for n in [at.start_x, at.start_y, at.step_x, at.step_y] {
-                w.i32(n);
-            }
-        }
-        for n in [q.filter, q.w, q.h, q.stride] {
-            w.size(n);
-        }
-        w.u32(q.depth);
-        w.bool(q.average);
+        write_args(q, w);
         w.bool(above);
         w.zeros(2);
         w.len(q.out);
@@ -151,6 +138,23 @@ impl Staged for Block {
     fn number(scene: &Scene, q: &Query) -> u32 {
         table::block_inter_predict(&q.args(scene), q.out, q.room)
     }
+}
+
+fn write_args(q: &Query, w: &mut Writer) {
+    for list in 0..2 {
+        w.i32(q.width[list]);
+        w.i32(q.height[list]);
+        q.lent[list].write(w);
+        let at = &q.at[list];
+        for n in [at.start_x, at.start_y, at.step_x, at.step_y] {
+            w.i32(n);
+        }
+    }
+    for n in [q.filter, q.w, q.h, q.stride] {
+        w.size(n);
+    }
+    w.u32(q.depth);
+    w.bool(q.average);
 }
 
 /// "Samples are 16-bit and may exceed the depth. The definition clips them. The Rust's copying path

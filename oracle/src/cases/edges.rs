@@ -151,7 +151,7 @@ pub fn large_positions() -> [(i32, i32); 3] {
     [(0, 8192), (4095, 8192), (8191, 8192)]
 }
 
-/// A component of a vector: small, near a limit, or rarely beyond it.
+/// A component of a vector of at most `limit`: mostly small, else any, or near the limit.
 pub fn component(rng: &mut Rng, limit: i32) -> i32 {
     match rng.below(16) {
         0..=6 => rng.within(-9, 9),

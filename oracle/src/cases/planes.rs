@@ -235,7 +235,7 @@ pub fn changed(out: &[u16]) -> (usize, &[u16]) {
     }
 }
 
-/// The answer, where what changed begins, and how much that is.
+/// Writes the answer, where what changed begins, and how much that is; gives what is to follow.
 pub fn write_output(number: u32, out: &[u16], w: &mut Writer) -> Vec<u16> {
     let (first, run) = changed(out);
     w.u32(number);
