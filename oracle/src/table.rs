@@ -19,10 +19,10 @@ pub const RECORD: u32 = 8;
 pub const VECTOR: u32 = 9;
 
 /// "The working room for two passes is lent and needs 8,576 numbers: 64 columns by 134 rows."
-pub const ROOM: usize = 8_576;
+const ROOM: usize = 8_576;
 
 /// "a stride too small or above 131,072"
-pub const LARGEST_STRIDE: usize = 131_072;
+const LARGEST_STRIDE: usize = 131_072;
 
 /// The search places as (row, column) offsets by block size: `mv_ref_blocks` of the standard's
 /// section 6.5.1, as src/mv_ref.rs prints it in `MV_REF_BLOCKS`.

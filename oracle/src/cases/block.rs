@@ -5,7 +5,6 @@ use super::edges::*;
 use super::planes::*;
 use super::rng::Rng;
 use super::staged::{Numbered, Staged};
-use crate::table::{LARGEST_STRIDE, ROOM};
 use crate::terms::{Bands, BlockArgs, Reference, Scaled};
 use crate::{door, plain, table};
 

@@ -4,7 +4,7 @@
 use super::bytes::{Read, Reader, Writer};
 use super::edges::{Edge, edge};
 use super::rng::Rng;
-use crate::table::{LARGEST_STRIDE, band_need};
+use crate::table::band_need;
 use crate::terms::Bands;
 
 /// Samples of a band that the file holds.
@@ -15,6 +15,10 @@ pub const LONGEST: usize = 65_536;
 
 /// The longest output or destination; one more than a plane can be wide.
 const LONGEST_OUTPUT: usize = 65_537;
+
+// Document 01's numbers once more, so that the table is not held against itself.
+pub const ROOM: usize = 8_576;
+pub const LARGEST_STRIDE: usize = 131_072;
 
 #[derive(Clone, Debug)]
 pub struct Scene {

@@ -7,7 +7,7 @@ use super::planes::*;
 use super::rng::Rng;
 use super::scale::ratios;
 use super::staged::{Numbered, Staged};
-use crate::table::{ROOM, plane_extent};
+use crate::table::plane_extent;
 use crate::terms::{BlockVectors, FrameReference, Grid, PredictArgs};
 use crate::{door, plain, table};
 
