@@ -398,7 +398,28 @@ fn chroma_edges() -> Vec<Edge<Query>> {
             }));
         }
     }
+    edges.extend(rounded_edges());
     edges
+}
+
+/// A frame of 23 by 19, both halved: 12 by 10 samples, in bands of 1 and 9 rows that are exactly
+/// long enough or one short.
+fn rounded_edges() -> Vec<Edge<Query>> {
+    let lengths = [(0, 12, 108), (7, 11, 108), (7, 12, 107)];
+    let set = |(number, upper, lower)| {
+        edge(number, move |q: &mut Query| {
+            (q.args.plane, q.args.sub_x, q.args.sub_y) = (1, true, true);
+            (q.args.frame_width, q.args.frame_height) = (23, 19);
+            q.resize(0, 23, 19);
+            q.lent[0] = Lent {
+                stride: 12,
+                upper_rows: 1,
+                upper,
+                lower,
+            };
+        })
+    };
+    lengths.into_iter().map(set).collect()
 }
 
 /// Frames, references and destinations of the largest sizes, and every ratio's boundary.
