@@ -3,3 +3,4 @@ pub mod Sizes
 pub mod Select
 pub mod Clamp
 pub mod Scale
+pub mod MvRef
