@@ -1,4 +1,5 @@
 pub mod Answer
+pub mod Example
 pub mod Number
 pub mod Position
 pub mod Paint

@@ -1,3 +1,5 @@
 pub mod Accepted
+pub mod Calls
 pub mod Parts
 pub mod Scaled
+pub mod Starred

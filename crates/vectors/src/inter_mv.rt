@@ -245,7 +245,10 @@ fn clamp_axis(total: i32, n: i32, first: i32, v: Eighth, s: u32) -> Sixteenth
     let near = edge(0 - first, s);
     let far = edge(total - n - first, s);
     let room = margin(n, s);
-    Sixteenth(base::clip3(near - room, far + (room - 16), (2 * v.0) >> s))
+    let low = near - room;
+    let high = far + (room - 16);
+    let x = (2 * v.0) >> s;
+    Sixteenth(base::clip3(low, high, x))
 }
 
 fn on_axis(total: i32, first: i32) -> bool

@@ -77,25 +77,25 @@ edge-requires-2 c κs =
 margin-requires : tie.Need-margin-requires
 margin-requires c κs = let s = c .before .before in rw (rd w32 (n s) tt) (n s .le, s .pre .1 .0 .1)
 
-sub-clip3 : tie.Need-sub-clip3
-sub-clip3 c = rw (rd w32 (near c) tt, rd w32 (room c) tt) (fits (near c ⊖ room c) tt)
+sub-low : tie.Need-sub-low
+sub-low c = rw (rd w32 (near c) tt, rd w32 (room c) tt) (fits (near c ⊖ room c) tt)
 
-sub-clip3-2 : tie.Need-sub-clip3-2
-sub-clip3-2 c = rw (rd w32 (room c) tt) (fits (room c ⊖ lit (pos 16)) tt)
+sub-high : tie.Need-sub-high
+sub-high c = rw (rd w32 (room c) tt) (fits (room c ⊖ lit (pos 16)) tt)
 
-add-clip3 : tie.Need-add-clip3
-add-clip3 c =
+add-high : tie.Need-add-high
+add-high c =
     let r = room c ⊖ lit (pos 16) in
     rw (rd w32 (far c) tt, rd w32 (room c) tt, rd w32 r tt) (fits (far c ⊕ r) tt)
 
-mul-clip3 : tie.Need-mul-clip3
-mul-clip3 c = let s = start (c .before .before) in rw (rd w32 (v s) tt) (fits (lit (pos 2) ⊛ v s) tt)
+mul-x : tie.Need-mul-x
+mul-x c = let s = start (c .before .before) in rw (rd w32 (v s) tt) (fits (lit (pos 2) ⊛ v s) tt)
 
-cast-clip3 : tie.Need-cast-clip3
-cast-clip3 c = search needs
+cast-x : tie.Need-cast-x
+cast-x c = search needs
 
-shr-clip3 : tie.Need-shr-clip3
-shr-clip3 c = search needs
+shr-x : tie.Need-shr-x
+shr-x c = search needs
 
 clip3-requires : tie.Need-clip3-requires
 clip3-requires c κs = search needs
@@ -125,11 +125,11 @@ clamp-axis-spec =
     sub-edge-3
     edge-requires-2
     margin-requires
-    sub-clip3
-    sub-clip3-2
-    add-clip3
-    mul-clip3
-    cast-clip3
-    shr-clip3
+    sub-low
+    sub-high
+    add-high
+    mul-x
+    cast-x
+    shr-x
     clip3-requires
     returns)
