@@ -1,0 +1,225 @@
+/* Answers files of oracle/'s cases (oracle/README.md has the format) through the compiled library and compares. Standard input is any number
+ * of files, one after the other; a line a file: 'CALL: N cases, D differences', with the place of the first. Exit status 1 if anything differs.
+ */
+#include <stdbool.h>
+#include <stdint.h>
+#include <stdio.h>
+#include <string.h>
+#include <unistd.h>
+
+#include "knobspindle.h"
+
+#define CELLS 8192
+#define SAMPLES 65537
+
+/* ---- reading */
+
+static uint8_t input[1 << 16];
+static size_t have, used;
+
+static bool take(void *to, size_t n) {
+    uint8_t *out = to;
+    while (n > 0) {
+        if (used == have) {
+            long got = read(0, input, sizeof input);
+            if (got <= 0) return false;
+            have = (size_t)got;
+            used = 0;
+        }
+        size_t k = have - used < n ? have - used : n;
+        memcpy(out, input + used, k);
+        used += k, out += k, n -= k;
+    }
+    return true;
+}
+
+static uint32_t u32(const uint8_t *r) { uint32_t v; memcpy(&v, r, 4); return v; }
+static int32_t i32(const uint8_t *r) { int32_t v; memcpy(&v, r, 4); return v; }
+static uint64_t u64(const uint8_t *r) { uint64_t v; memcpy(&v, r, 8); return v; }
+
+static knobspindle_mv mv(const uint8_t *r) { return (knobspindle_mv){i32(r), i32(r + 4)}; }
+static bool same(knobspindle_mv v, const uint8_t *r) { return v.row == i32(r) && v.col == i32(r + 4); }
+
+/* ---- the calls on plain numbers */
+
+static bool select_agrees(const uint8_t *r) {
+    knobspindle_block_mvs of;
+    for (int b = 0; b < 4; b++) of.list0[b] = mv(r + 8 * b), of.list1[b] = mv(r + 32 + 8 * b);
+    knobspindle_selected_mv got = knobspindle_select_mv(of, r[81], u64(r + 64), r[80], u64(r + 72), r[82], r[83]);
+    return got.answer == u32(r + 84) && same(got.mv, r + 88);
+}
+
+static bool clamp_agrees(const uint8_t *r) {
+    knobspindle_block_grid grid = {i32(r + 8), i32(r + 12), i32(r + 16), i32(r + 20), r[32]};
+    knobspindle_clamped_mv got = knobspindle_clamp_mv(grid, mv(r + 24), u64(r), r[33], r[34]);
+    return got.answer == u32(r + 36) && got.mv.row == i32(r + 40) && got.mv.col == i32(r + 44);
+}
+
+static bool scale_agrees(const uint8_t *r) {
+    knobspindle_scale_geom geom = {i32(r + 8), i32(r + 12), i32(r + 16), i32(r + 20), r[40], r[41]};
+    knobspindle_scaled_mv got = knobspindle_scale_mv(geom, u64(r), i32(r + 24), i32(r + 28), (knobspindle_plane_mv){i32(r + 32), i32(r + 36)});
+    return got.answer == u32(r + 44) && got.start_x == i32(r + 48) && got.start_y == i32(r + 52) && got.step_x == i32(r + 56) &&
+           got.step_y == i32(r + 60);
+}
+
+static knobspindle_mv_ref_geometry geometry(const uint8_t *r, uint8_t size) {
+    return (knobspindle_mv_ref_geometry){i32(r), i32(r + 4), i32(r + 8), i32(r + 12), size, i32(r + 16), i32(r + 20)};
+}
+
+static bool best_agrees(const uint8_t *r) {
+    knobspindle_mv_pair got = knobspindle_find_best_ref_mvs(geometry(r, r[40]), mv(r + 24), mv(r + 32), r[41]);
+    return got.answer == u32(r + 44) && same(got.first, r + 48) && same(got.second, r + 56);
+}
+
+/* ---- the calls over lent tables */
+
+static struct {
+    uint8_t modes[CELLS];
+    int8_t frames[2 * CELLS], prev_frames[2 * CELLS];
+    int16_t mvs[4 * CELLS], subs[16 * CELLS], prev_mvs[4 * CELLS];
+} tables;
+
+/* element j of a lent table with k elements a cell is element j mod (p x k) of the scene's */
+static void repeat(void *to, const uint8_t *from, size_t width, size_t period, size_t n) {
+    for (size_t j = 0; j < n; j++) memcpy((uint8_t *)to + j * width, from + j % period * width, width);
+}
+
+static bool table_scene(uint32_t *queries) {
+    static uint8_t s[3408];
+    if (!take(s, sizeof s)) return false;
+    size_t p = u32(s), n = u32(s + 4);
+    if (p < 1 || p > 64 || n > CELLS) return false;
+    repeat(tables.modes, s + 8, 1, p, n);
+    repeat(tables.frames, s + 72, 1, 2 * p, 2 * n);
+    repeat(tables.mvs, s + 200, 2, 4 * p, 4 * n);
+    repeat(tables.subs, s + 712, 2, 16 * p, 16 * n);
+    repeat(tables.prev_frames, s + 2760, 1, 2 * p, 2 * n);
+    repeat(tables.prev_mvs, s + 2888, 2, 4 * p, 4 * n);
+    *queries = u32(s + 3400);
+    return true;
+}
+
+static knobspindle_sign_bias bias(const uint8_t *r) { return (knobspindle_sign_bias){{r[57], r[58], r[59], r[60]}}; }
+
+static bool search_agrees(const uint8_t *r) {
+    knobspindle_mv_refs got =
+        knobspindle_find_mv_refs(tables.modes, u32(r + 32), tables.frames, u32(r + 36), tables.mvs, u32(r + 40), tables.subs, u32(r + 44),
+                                 tables.prev_frames, u32(r + 48), tables.prev_mvs, u32(r + 52), geometry(r, r[56]), i32(r + 24), i32(r + 28),
+                                 bias(r), r[61]);
+    return got.answer == u32(r + 64) && same(got.first, r + 68) && same(got.second, r + 76) && got.context == u32(r + 84);
+}
+
+static bool append_agrees(const uint8_t *r) {
+    knobspindle_sub_mvs of = {{mv(r + 64), mv(r + 72), mv(r + 80), mv(r + 88)}};
+    knobspindle_mv_pair got =
+        knobspindle_append_sub8x8_mvs(tables.modes, u32(r + 32), tables.frames, u32(r + 36), tables.mvs, u32(r + 40), tables.subs, u32(r + 44),
+                                      tables.prev_frames, u32(r + 48), tables.prev_mvs, u32(r + 52), geometry(r, r[56]), (size_t)i32(r + 28),
+                                      i32(r + 24), of, bias(r), r[61]);
+    return got.answer == u32(r + 96) && same(got.first, r + 100) && same(got.second, r + 108);
+}
+
+/* ---- the calls over planes */
+
+static uint16_t bands[4][SAMPLES], out[SAMPLES], expected[SAMPLES], room[KNOBSPINDLE_ROOM + 1];
+
+static bool plane_scene(uint32_t *queries) {
+    static uint8_t s[8208];
+    if (!take(s, sizeof s)) return false;
+    size_t longest = u32(s);
+    if (longest > SAMPLES) return false;
+    for (int b = 0; b < 4; b++) repeat(bands[b], s + 8 + 2048 * b, 2, 1024, longest);
+    *queries = u32(s + 8200);
+    return true;
+}
+
+static knobspindle_plane_geom plane(const uint8_t *r) { return (knobspindle_plane_geom){i32(r), i32(r + 4), u64(r + 8), u64(r + 16)}; }
+static knobspindle_stepping stepping(const uint8_t *r) { return (knobspindle_stepping){i32(r), i32(r + 4), i32(r + 8), i32(r + 12)}; }
+
+static bool row_agrees(const uint8_t *r) {
+    knobspindle_row got = knobspindle_row_read(bands[0], u32(r + 24), bands[1], u32(r + 28), plane(r), u64(r + 32));
+    return got.answer == u32(r + 40) && got.lower == (u32(r + 44) != 0) && got.start == u64(r + 48) && got.len == u64(r + 56);
+}
+
+/* what stands in the output before a call */
+static void pattern(uint16_t *to, size_t n) {
+    for (size_t i = 0; i < n; i++) to[i] = (uint16_t)((i * 37 + 11) % 1021);
+}
+
+/* the output after a call: the pattern but for the run of samples that follows the record */
+static bool expect(size_t n, size_t first, size_t run) {
+    static uint8_t tail[8];
+    if (first + run > n) return false;
+    pattern(expected, n);
+    return take(expected + first, 2 * run) && take(tail, (8 - 2 * run % 8) % 8);
+}
+
+static bool block_agrees(const uint8_t *r) {
+    size_t n = u32(r + 136), m = u32(r + 140);
+    if (n > SAMPLES || m > KNOBSPINDLE_ROOM + 1 || !expect(n, u32(r + 148), u32(r + 152))) return false;
+    pattern(out, n);
+    memset(room, 0x5a, sizeof room);
+    knobspindle_block_shape shape = {u64(r + 104), u64(r + 112), u64(r + 96), u32(r + 128), r[132]};
+    uint32_t answer =
+        knobspindle_block_inter_predict(shape, plane(r), stepping(r + 32), bands[0], u32(r + 24), bands[1], u32(r + 28), plane(r + 48),
+                                        stepping(r + 80), bands[2], u32(r + 72), bands[3], u32(r + 76), room, m, out, n, u64(r + 120));
+    bool kept = true;
+    if (answer != 0)
+        for (size_t i = 0; i < m; i++) kept = kept && room[i] == 0x5a5a;
+    return answer == u32(r + 144) && kept && memcmp(out, expected, 2 * n) == 0;
+}
+
+/* ---- files */
+
+typedef struct {
+    const char *name;
+    size_t length;
+    bool (*scene)(uint32_t *queries);
+    bool (*agrees)(const uint8_t *record);
+} call;
+
+static const call calls[] = {
+    {"select_mv", 96, 0, select_agrees},
+    {"clamp_mv", 48, 0, clamp_agrees},
+    {"scale_mv", 64, 0, scale_agrees},
+    {"find_best_ref_mvs", 64, 0, best_agrees},
+    {"find_mv_refs", 88, table_scene, search_agrees},
+    {"append_sub8x8_mvs", 120, table_scene, append_agrees},
+    {"row_read", 64, plane_scene, row_agrees},
+    {"block_inter_predict", 160, plane_scene, block_agrees},
+};
+
+enum outcome { AGREES, DIFFERS, BROKEN };
+
+static enum outcome answer_file(const uint8_t *header) {
+    uint32_t number = u32(header + 4), count = u32(header + 12);
+    if (memcmp(header, "KNOB", 4) != 0 || number < 1 || number > sizeof calls / sizeof *calls || u32(header + 8) != calls[number - 1].length) {
+        printf("answer: not a file of cases that this program knows (call %u)\n", number);
+        return BROKEN;
+    }
+    const call *c = &calls[number - 1];
+    uint32_t wrong = 0, first = 0, left = 0;
+    for (uint32_t i = 0; i < count; i++) {
+        static uint8_t r[160];
+        bool there = !c->scene || left > 0 || c->scene(&left);
+        if (!there || !take(r, c->length)) {
+            printf("%s: the file ends in case %u\n", c->name, i);
+            return BROKEN;
+        }
+        left--;
+        if (!c->agrees(r) && wrong++ == 0) first = i;
+    }
+    printf("%s: %u cases, %u differences\n", c->name, count, wrong);
+    if (wrong) printf("%s: first difference at case %u\n", c->name, first);
+    return wrong ? DIFFERS : AGREES;
+}
+
+int main(void) {
+    uint8_t header[16];
+    enum outcome all = BROKEN; /* no file at all is no success */
+    for (bool any = false; take(header, sizeof header); any = true) {
+        enum outcome one = answer_file(header);
+        all = any && all > one ? all : one;
+        if (one == BROKEN) break;
+    }
+    return all == AGREES ? 0 : 1;
+}
