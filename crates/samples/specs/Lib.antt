@@ -2,3 +2,4 @@ pub mod Taps
 pub mod Sample
 pub mod Plane
 pub mod Call
+pub mod Kernel

@@ -1,0 +1,5 @@
+pub mod Casts
+pub mod Filtered
+pub mod Loops
+pub mod Rows
+pub mod TapRules
