@@ -36,8 +36,8 @@ one-is max p x r =
     let d4 = more (more (more (more (diff-pos 0) (r .t0) (x 0)) (r .t1) (x 1)) (r .t2) (x 2)) (r .t3) (x 3) in
     let d8 = more (more (more (more d4 (r .t4) (x 4)) (r .t5) (x 5)) (r .t6) (x 6)) (r .t7) (x 7) in
     let all : toN (sum 8 (tap (p .filter) (p .phase)) x +ℤ pos 64)
-          ≡ products p (x 0) (x 1) (x 2) (x 3) (x 4) (x 5) (x 6) (x 7) + 64 - 24 * (x 0 + x 1 + x 2 + x 3 + x 4 + x 5 + x 6 + x 7)
-          = diff-toN _ _ _ (diff-add d8 (diff-pos 64)) ∙ omega arith in
+    ≡ products p (x 0) (x 1) (x 2) (x 3) (x 4) (x 5) (x 6) (x 7) + 64 - 24 * (x 0 + x 1 + x 2 + x 3 + x 4 + x 5 + x 6 + x 7)
+    = diff-toN _ _ _ (diff-add d8 (diff-pos 64)) ∙ omega arith in
     ap (λ (n : ℕ). min (n / 128) max) (sym all)
 
 sum-same : (n : ℕ) (f g : ℕ → ℤ) (x y : ℕ → ℕ) → ((t : ℕ) → t < n → (f t ≡ g t) × (x t ≡ y t)) → sum n f x ≡ sum n g y

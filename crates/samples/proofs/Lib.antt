@@ -1,3 +1,5 @@
+pub mod Bands
+pub mod Blocks
 pub mod Casts
 pub mod Filtered
 pub mod Loops

@@ -41,8 +41,7 @@ line-is max taps row line last start step w d same c cw =
     filtered-same max _ _ _ _
     (λ t t8.
     let e : d + past + 1 * t ≡ d + (past + t) = omega arith in
-    let f : start / 16 + (past + t) ≡ (start + step * c) / 16 + t = omega arith in
-    (
+    let f : start / 16 + (past + t) ≡ (start + step * c) / 16 + t = omega arith in (
       ap (λ (m : ℕ). taps m t) phase,
       ap (λ (k : ℕ). getD line k 0) e ∙ same (past + t) (omega arith) ∙ ap (λ (k : ℕ). getD row (min (k - 200003) last) 0) f,
     ))

@@ -88,6 +88,10 @@ unfoldable pub blockAt : ℕ → (ℕ → ℕ → ℤ) → Lent → ℕ → ℕ 
 blockAt max taps p sx stepx sy stepy r c =
     level max taps (λ (v : ℕ). level max taps (plane p v) (widthOf (p .geom) - 1) (sx + stepx * c)) (heightOf (p .geom) - 1) (sy + stepy * r)
 
--- the rounded means of what stands in the output and of f
+-- the rounded means of what stands in the output from place at on and of f
+unfoldable pub meanOf : List ℕ → ℕ → (ℕ → ℕ) → ℕ → ℕ
+meanOf out at f c = (getD out (at + c) 0 + f c + 1) / 2
+
+-- the same of a rectangle of the output, row by row
 unfoldable pub meanWith : List ℕ → ℕ → (ℕ → ℕ → ℕ) → ℕ → ℕ → ℕ
-meanWith out stride f r c = (getD out (r * stride + c) 0 + f r c + 1) / 2
+meanWith out stride f r = meanOf out (r * stride) (f r)

@@ -26,7 +26,14 @@ fn dot(p: Taps, a: u16, b: u16, c: u16, d: u16, e: u16, f: u16, g: u16, h: u16) 
     requires { ⌜ IsTaps p ⌝ }
     ensures { λ r. ⌜ (r ≡ products p a b c d e f g h) × (r ≤ 79690560) ⌝ }
 {
-    mul(p.t0, a) + mul(p.t1, b) + mul(p.t2, c) + mul(p.t3, d) + mul(p.t4, e) + mul(p.t5, f) + mul(p.t6, g) + mul(p.t7, h)
+    mul(p.t0, a)
+        + mul(p.t1, b)
+        + mul(p.t2, c)
+        + mul(p.t3, d)
+        + mul(p.t4, e)
+        + mul(p.t5, f)
+        + mul(p.t6, g)
+        + mul(p.t7, h)
 }
 
 // What the 24 on each tap added to the sum.
@@ -60,7 +67,11 @@ fn one(p: Taps, a: u16, b: u16, c: u16, d: u16, e: u16, f: u16, g: u16, h: u16, 
     requires { ⌜ IsTaps p ⌝ }
     ensures { λ r. ⌜ r ≡ raisedOne max p a b c d e f g h ⌝ }
 {
-    rounded(dot(p, a, b, c, d, e, f, g, h), surplus(a, b, c, d, e, f, g, h), max)
+    rounded(
+        dot(p, a, b, c, d, e, f, g, h),
+        surplus(a, b, c, d, e, f, g, h),
+        max,
+    )
 }
 
 // Eight samples from place s on, n apart: 1 in a row, 64 in a column of the room.
@@ -84,7 +95,16 @@ fn window(l: &[u16], n: usize, s: usize, p: Taps, max: u16) -> u16
 }
 
 // A row of results of one phase.
-pub(crate) fn row_filtered(l: &[u16], n: usize, b: usize, p: Taps, w: usize, max: u16, out: &mut [u16], at: usize)
+pub(crate) fn row_filtered(
+    l: &[u16],
+    n: usize,
+    b: usize,
+    p: Taps,
+    w: usize,
+    max: u16,
+    out: &mut [u16],
+    at: usize,
+)
     requires { ⌜ IsTaps p ⌝ }
     requires { ⌜ (b + w + n * 7 ≤ length (now l)) × (n ≤ 64) × (at + w ≤ length (now out)) ⌝ }
     ensures { λ _. ⌜ now (out .exit) ≡ fill (now (out .entry)) at w (ran max (tap (p .filter) (p .phase)) (now (l .entry)) n b) ⌝ }
