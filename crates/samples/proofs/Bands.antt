@@ -5,7 +5,7 @@ use mathlib.Core.List.{List}
 use Prim.Native.Nat.{ℕ, _+_, _-_, _*_, _<_, _≤_}
 use native.Mathlib.Nat.{mul-le-mul-right}
 use native.Mathlib.Omega.{arith}
-use borrow.Author.Tests.{ltb-true, leb-true, lt-ltb}
+use borrow.Author.Tests.{ltb-true, leb-true, lt-ltb, le-leb}
 use lib.Dec.{leb, ltb}
 use lib.ListN.{length, getD, take, drop}
 use lib.Seq.{getD-take, getD-drop}
@@ -22,6 +22,14 @@ holds-row rows stride w len y e h =
     let long : (rows - 1) * stride + w ≤ len = leb-true _ _ (simp (lt-ltb 0 rows some) at e) in
     let up : y ≤ rows - 1 = omega arith in
     omega (arith, mul-le-mul-right stride up)
+
+pub holds-long : (rows stride w len : ℕ) → (rows - 1) * stride + w ≤ len → holds rows stride w len ≡ true
+unfolding holds
+holds-long rows stride w len h = rw (le-leb _ _ h) (either (ltb 0 rows))
+  where
+    either : (t : Bool) → cond t true true ≡ true
+    either true = refl
+    either false = refl
 
 -- the test of both bands, parted as the code parts it
 pub regroup : (a b c d : Bool) → (a && b) ≡ true → (c && d) ≡ (a && b && c && d)

@@ -6,7 +6,7 @@ ghost use lib.ListN.{length};
 ghost use Rattle.base.specs.Paint.{fill, paint};
 ghost use Rattle.samples.specs.Taps.{filters, tap};
 ghost use Rattle.samples.specs.Plane.{holds, fits};
-ghost use Rattle.samples.specs.Kernel.{IsTaps, ran, listed, view, acrossFrom, downAt, meanOf, meanWith};
+ghost use Rattle.samples.specs.Kernel.{IsTaps, ran, listed, view, acrossFrom, downAt, blockAt, meanOf, meanWith};
 use crate::kernels::held;
 use crate::kernels::row_across;
 use crate::kernels::row_clipped;
@@ -14,6 +14,7 @@ use crate::kernels::row_filtered;
 use crate::plane::plane_row;
 use crate::taps::Taps;
 use crate::taps::taps_at;
+use crate::taps::SUBPEL_FILTERS;
 
 // The horizontal pass: n rows from the lifted row y0 on, w columns each.
 fn pass_across<'a>(
@@ -148,4 +149,77 @@ fn pass_down_mean(
         row_down_mean(p, room, b * 64, w, max, out, r * stride);
         r += 1;
     }
+}
+
+// A block from one reference. Whole rows in steps of 16 need no vertical pass.
+pub(crate) fn block<'a>(
+    upper: &'a [u16],
+    lower: &'a [u16],
+    pw: usize,
+    ph: usize,
+    stride: usize,
+    k: usize,
+    sx: usize,
+    stepx: usize,
+    sy: usize,
+    stepy: usize,
+    filter: usize,
+    w: usize,
+    h: usize,
+    max: u16,
+    room: &mut [u16],
+    out: &mut [u16],
+    ostride: usize,
+)
+    requires { ⌜ (filter < 4) × (sx ≤ 6200000) × (stepx ≤ 32) × (sy ≤ 6200000) × (stepy ≤ 32) × (0 < w) × (w ≤ 64) × (0 < h) × (h ≤ 64) ⌝ }
+    requires { ⌜ (0 < pw) × (0 < ph) × (8576 ≤ length (now room)) ⌝ }
+    requires { ⌜ fits (view pw ph stride k (now upper) (now lower)) ≡ true ⌝ }
+    requires { ⌜ holds h ostride w (length (now out)) ≡ true ⌝ }
+    ensures { λ _. ⌜ now (out .exit) ≡ paint (now (out .entry)) ostride w h
+        (blockAt max (tap filter) (view pw ph stride k (now (upper .entry)) (now (lower .entry))) sx stepx sy stepy) ⌝ }
+{
+    let table = SUBPEL_FILTERS;
+    let p = taps_at(&table, filter, sx % 16);
+    if (sy % 16 == 0) & (stepy == 16) {
+        pass_across(&table, p, upper, lower, pw, ph, stride, k, sx, stepx, sy / 16 + 3, h, w, max, out, ostride);
+        return;
+    }
+    let n = (sy % 16 + stepy * (h - 1)) / 16 + 8;
+    pass_across(&table, p, upper, lower, pw, ph, stride, k, sx, stepx, sy / 16, n, w, max, room, 64);
+    pass_down(&table, filter, room, sy, stepy, w, h, max, out, ostride)
+}
+
+// The same, averaged with what stands in the output.
+pub(crate) fn block_mean<'a>(
+    upper: &'a [u16],
+    lower: &'a [u16],
+    pw: usize,
+    ph: usize,
+    stride: usize,
+    k: usize,
+    sx: usize,
+    stepx: usize,
+    sy: usize,
+    stepy: usize,
+    filter: usize,
+    w: usize,
+    h: usize,
+    max: u16,
+    room: &mut [u16],
+    out: &mut [u16],
+    ostride: usize,
+)
+    requires { ⌜ (filter < 4) × (sx ≤ 6200000) × (stepx ≤ 32) × (sy ≤ 6200000) × (stepy ≤ 32) × (0 < w) × (w ≤ 64) × (0 < h) × (h ≤ 64) ⌝ }
+    requires { ⌜ (0 < pw) × (0 < ph) × (8576 ≤ length (now room)) × (w ≤ ostride) ⌝ }
+    requires { ⌜ fits (view pw ph stride k (now upper) (now lower)) ≡ true ⌝ }
+    requires { ⌜ holds h ostride w (length (now out)) ≡ true ⌝ }
+    ensures { λ _. ⌜ now (out .exit) ≡ paint (now (out .entry)) ostride w h
+        (meanWith (now (out .entry)) ostride
+        (blockAt max (tap filter) (view pw ph stride k (now (upper .entry)) (now (lower .entry))) sx stepx sy stepy)) ⌝ }
+{
+    let table = SUBPEL_FILTERS;
+    let p = taps_at(&table, filter, sx % 16);
+    let n = (sy % 16 + stepy * (h - 1)) / 16 + 8;
+    pass_across(&table, p, upper, lower, pw, ph, stride, k, sx, stepx, sy / 16, n, w, max, room, 64);
+    pass_down_mean(&table, filter, room, sy, stepy, w, h, max, out, ostride)
 }
