@@ -1,3 +1,4 @@
+pub mod Accepted
 pub mod Bands
 pub mod Blocks
 pub mod Casts
