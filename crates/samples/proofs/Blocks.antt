@@ -7,10 +7,10 @@ use native.Mathlib.Omega.{arith}
 use lib.IntN.{ℤ}
 use lib.ListN.{length, getD}
 use Rattle.base.specs.Paint.{fill, paint}
-use Rattle.base.proofs.Painted.{fill-same, fill-at, paint-at, paint-else}
+use Rattle.base.proofs.Painted.{fill-same, fill-at, paint-at, paint-else, paint-same, paint-over}
 use Rattle.samples.specs.Taps.{tap}
 use Rattle.samples.specs.Plane.{Lent, plane, rowOf, widthOf, heightOf}
-use Rattle.samples.specs.Kernel.{apart, ran, clipped, seat, level, listed, levels, acrossFrom, downAt, blockAt, meanOf}
+use Rattle.samples.specs.Kernel.{apart, ran, clipped, seat, level, listed, levels, acrossFrom, downAt, blockAt, meanOf, meanWith}
 use Rattle.samples.proofs.Bands.{row-at}
 use Rattle.samples.proofs.Filtered.{samples-same, filtered-whole, filtered-max}
 
@@ -90,3 +90,14 @@ mean-filled out line at w f m long =
     (λ c cw.
     let e : getD (fill line 0 w f) c 0 ≡ f c = rw zero-add at (fill-at line 0 w f (omega arith) c cw) in
     rw e)
+
+-- means taken in place of a painted rectangle
+pub mean-painted : (out : List ℕ) (stride w h : ℕ) (f g : ℕ → ℕ → ℕ) → w ≤ stride → (h - 1) * stride + w ≤ length out
+    → paint (paint out stride w h f) stride w h (meanWith (paint out stride w h f) stride g)
+    ≡ paint out stride w h (λ (r c : ℕ). (f r c + g r c + 1) / 2)
+unfolding meanWith meanOf
+mean-painted out stride w h f g ws fit =
+    let m = paint out stride w h f in
+    paint-same m stride w h _ _
+    (λ r c rh cw. ap (λ (v : ℕ). (v + g r c + 1) / 2) (paint-at out stride w h f ws fit r c rh cw))
+    ∙ paint-over out stride w h f _ ws fit

@@ -1,6 +1,7 @@
 pub mod Accepted
 pub mod Bands
 pub mod Blocks
+pub mod Bridge
 pub mod Casts
 pub mod Filtered
 pub mod Loops

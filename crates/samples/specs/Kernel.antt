@@ -2,12 +2,16 @@
 -- definition that a caller reads cites this file; proofs/Bridge.antt joins it to those that do. Assumes nothing.
 use Prim.Native.Nat.{ℕ, _+_, _-_, _*_, _/_, _%_, _≤_, min}
 use mathlib.Core.Path.{_≡_}
+use mathlib.Core.Bool.{true, _&&_}
 use mathlib.Core.List.{List}
 use lib.IntN.{ℤ, pos, _+ℤ_}
 use lib.ListN.{getD}
 use Rattle.samples.specs.Taps.{tap}
 use Rattle.samples.specs.Sample.{filtered}
-use Rattle.samples.specs.Plane.{Lent, lent, plane, widthOf, heightOf}
+use Rattle.base.specs.Number.{within}
+use Rattle.samples.specs.Plane.{Lent, lent, plane, widthOf, heightOf, sized, fits}
+use Rattle.samples.specs.Call.{Ref, kind, starts}
+use Rattle.samples.specs.declared.block_inter_pred.BlockShape.{BlockShape}
 use Rattle.samples.specs.declared.taps.Taps.{Taps}
 
 -- p is the tap z with 24 added
@@ -95,3 +99,11 @@ meanOf out at f c = (getD out (at + c) 0 + f c + 1) / 2
 -- the same of a rectangle of the output, row by row
 unfoldable pub meanWith : List ℕ → ℕ → (ℕ → ℕ → ℕ) → ℕ → ℕ → ℕ
 meanWith out stride f r = meanOf out (r * stride) (f r)
+
+-- a block and a reference that passed their tests
+pub record Legal (b : BlockShape) (p : Ref) : Type 0 where
+  pub block : (within 1 64 (b .w) && within 1 64 (b .h)) ≡ true
+  pub filter : kind b ≡ true
+  pub plane : sized (p .lent .geom) ≡ true
+  pub from : starts (p .from) ≡ true
+  pub bands : fits (p .lent) ≡ true

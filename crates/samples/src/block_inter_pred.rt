@@ -12,23 +12,23 @@ ghost use Rattle.samples.specs.Plane as Plane;
 ghost use Rattle.samples.specs.Plane.{lent};
 ghost use Rattle.samples.specs.Call as Call;
 ghost use Rattle.samples.specs.Call.{also, call, fromRef, numberOf, ref, value, Outcome};
-ghost use Rattle.samples.specs.Kernel.{meanWith};
-use base::between;
-use base::natural;
-use base::unless;
-use base::within;
-use base::Sixteenth;
+ghost use Rattle.samples.specs.Kernel.{Legal, meanWith};
+use crate::passes::block;
+use crate::passes::block_mean;
+use crate::plane::PlaneGeom;
+use crate::plane::fits;
+use crate::plane::holds;
+use crate::plane::sized;
 use base::BLOCK;
 use base::FILTER;
 use base::SHORT;
 use base::SIZE;
 use base::START;
-use crate::passes::block;
-use crate::passes::block_mean;
-use crate::plane::fits;
-use crate::plane::holds;
-use crate::plane::sized;
-use crate::plane::PlaneGeom;
+use base::Sixteenth;
+use base::between;
+use base::natural;
+use base::unless;
+use base::within;
 
 // The block: its size in samples, which filter, the bit depth, and whether two references are averaged.
 pub struct BlockShape {
@@ -118,8 +118,18 @@ fn refusal<'a>(
     let block = within(1, 64, shape.w) & within(1, 64, shape.h);
     let size = sized(geom) & sized_also(a, geom2);
     let start = starts(from) & starts_also(a, from2);
-    let room = fits(upper, lower, geom) & fits_also(a, upper2, lower2, geom2) & out_fits(shape.w, shape.h, stride, n, m);
-    unless(BLOCK, block, unless(FILTER, kind(shape), unless(SIZE, size, unless(START, start, unless(SHORT, room, 0)))))
+    let room = fits(upper, lower, geom)
+        & fits_also(a, upper2, lower2, geom2)
+        & out_fits(shape.w, shape.h, stride, n, m);
+    unless(
+        BLOCK,
+        block,
+        unless(
+            FILTER,
+            kind(shape),
+            unless(SIZE, size, unless(START, start, unless(SHORT, room, 0))),
+        ),
+    )
 }
 
 // 3,200,000 is a multiple of 16, and more than the lowest start with the taps before it.
@@ -141,4 +151,161 @@ fn top(shape: BlockShape) -> u16
     } else {
         4095
     }
+}
+
+// An accepted block from one reference.
+fn predict_one<'a>(
+    shape: BlockShape,
+    geom: PlaneGeom,
+    from: Stepping,
+    upper: &'a [u16],
+    lower: &'a [u16],
+    room: &mut [u16],
+    out: &mut [u16],
+    stride: usize,
+)
+    requires { ⌜ Legal shape (ref (lent geom (now upper) (now lower)) from) ⌝ }
+    requires { ⌜ (Plane.holds (shape .h) stride (shape .w) (length (now out)) ≡ true) × (8576 ≤ length (now room)) ⌝ }
+    ensures { λ _. ⌜ now (out .exit) ≡ paint (now (out .entry)) stride (shape .w) (shape .h)
+        (fromRef shape (ref (lent geom (now (upper .entry)) (now (lower .entry))) from)) ⌝ }
+{
+    block(
+        upper,
+        lower,
+        natural(geom.width),
+        natural(geom.height),
+        geom.stride,
+        geom.upper_rows,
+        lift(from.start_x),
+        natural(from.step_x.0),
+        lift(from.start_y),
+        natural(from.step_y.0),
+        shape.filter,
+        shape.w,
+        shape.h,
+        top(shape),
+        room,
+        out,
+        stride,
+    )
+}
+
+// The same, averaged with what stands in the output.
+fn predict_two<'a>(
+    shape: BlockShape,
+    geom: PlaneGeom,
+    from: Stepping,
+    upper: &'a [u16],
+    lower: &'a [u16],
+    room: &mut [u16],
+    out: &mut [u16],
+    stride: usize,
+)
+    requires { ⌜ Legal shape (ref (lent geom (now upper) (now lower)) from) ⌝ }
+    requires { ⌜ (Plane.holds (shape .h) stride (shape .w) (length (now out)) ≡ true) × (8576 ≤ length (now room)) × (shape .w ≤ stride) ⌝ }
+    ensures { λ _. ⌜ now (out .exit) ≡ paint (now (out .entry)) stride (shape .w) (shape .h)
+        (meanWith (now (out .entry)) stride (fromRef shape (ref (lent geom (now (upper .entry)) (now (lower .entry))) from))) ⌝ }
+{
+    block_mean(
+        upper,
+        lower,
+        natural(geom.width),
+        natural(geom.height),
+        geom.stride,
+        geom.upper_rows,
+        lift(from.start_x),
+        natural(from.step_x.0),
+        lift(from.start_y),
+        natural(from.step_y.0),
+        shape.filter,
+        shape.w,
+        shape.h,
+        top(shape),
+        room,
+        out,
+        stride,
+    )
+}
+
+// An accepted call: list 0 into the output, then, where it is averaged, list 1 on top of it.
+fn predict<'a>(
+    shape: BlockShape,
+    geom: PlaneGeom,
+    from: Stepping,
+    upper: &'a [u16],
+    lower: &'a [u16],
+    geom2: PlaneGeom,
+    from2: Stepping,
+    upper2: &'a [u16],
+    lower2: &'a [u16],
+    room: &mut [u16],
+    out: &mut [u16],
+    stride: usize,
+)
+    requires { ⌜ numberOf
+        (call shape (ref (lent geom (now upper) (now lower)) from) (ref (lent geom2 (now upper2) (now lower2)) from2) stride)
+        (length (now out)) (length (now room)) ≡ 0 ⌝ }
+    ensures { λ _. ⌜ now (out .exit) ≡ paint (now (out .entry)) stride (shape .w) (shape .h)
+        (value (call shape (ref (lent geom (now (upper .entry)) (now (lower .entry))) from)
+        (ref (lent geom2 (now (upper2 .entry)) (now (lower2 .entry))) from2) stride)) ⌝ }
+{
+    predict_one(shape, geom, from, upper, lower, room, out, stride);
+    if shape.average {
+        predict_two(shape, geom2, from2, upper2, lower2, room, out, stride);
+    }
+}
+
+// The block's samples into the output; the answer's number is given back. List 1 is looked at only when averaging.
+pub fn block_inter_predict<'a>(
+    shape: BlockShape,
+    geom: PlaneGeom,
+    from: Stepping,
+    upper: &'a [u16],
+    lower: &'a [u16],
+    geom2: PlaneGeom,
+    from2: Stepping,
+    upper2: &'a [u16],
+    lower2: &'a [u16],
+    room: &mut [u16],
+    out: &mut [u16],
+    stride: usize,
+) -> u32
+    ensures { λ r. ⌜ Outcome
+        (call shape (ref (lent geom (now (upper .entry)) (now (lower .entry))) from) (ref (lent geom2 (now (upper2 .entry)) (now (lower2 .entry))) from2) stride)
+        (now (out .entry)) (now (room .entry)) r (now (out .exit)) (now (room .exit)) ⌝ }
+{
+    let n = out.len();
+    let m = room.len();
+    let number = refusal(
+        shape,
+        geom,
+        from,
+        upper,
+        lower,
+        geom2,
+        from2,
+        upper2,
+        lower2,
+        stride,
+        n,
+        m,
+    );
+    if number != 0 {
+        return number;
+    }
+    predict(
+        shape,
+        geom,
+        from,
+        upper,
+        lower,
+        geom2,
+        from2,
+        upper2,
+        lower2,
+        room,
+        out,
+        stride,
+    );
+    0
 }

@@ -7,5 +7,6 @@ mod taps;
 
 pub use block_inter_pred::BlockShape;
 pub use block_inter_pred::Stepping;
+pub use block_inter_pred::block_inter_predict;
 pub use plane::PlaneGeom;
 pub use plane::row_read;

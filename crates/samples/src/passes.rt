@@ -12,9 +12,9 @@ use crate::kernels::row_across;
 use crate::kernels::row_clipped;
 use crate::kernels::row_filtered;
 use crate::plane::plane_row;
+use crate::taps::SUBPEL_FILTERS;
 use crate::taps::Taps;
 use crate::taps::taps_at;
-use crate::taps::SUBPEL_FILTERS;
 
 // The horizontal pass: n rows from the lifted row y0 on, w columns each.
 fn pass_across<'a>(
@@ -181,11 +181,45 @@ pub(crate) fn block<'a>(
     let table = SUBPEL_FILTERS;
     let p = taps_at(&table, filter, sx % 16);
     if (sy % 16 == 0) & (stepy == 16) {
-        pass_across(&table, p, upper, lower, pw, ph, stride, k, sx, stepx, sy / 16 + 3, h, w, max, out, ostride);
+        pass_across(
+            &table,
+            p,
+            upper,
+            lower,
+            pw,
+            ph,
+            stride,
+            k,
+            sx,
+            stepx,
+            sy / 16 + 3,
+            h,
+            w,
+            max,
+            out,
+            ostride,
+        );
         return;
     }
     let n = (sy % 16 + stepy * (h - 1)) / 16 + 8;
-    pass_across(&table, p, upper, lower, pw, ph, stride, k, sx, stepx, sy / 16, n, w, max, room, 64);
+    pass_across(
+        &table,
+        p,
+        upper,
+        lower,
+        pw,
+        ph,
+        stride,
+        k,
+        sx,
+        stepx,
+        sy / 16,
+        n,
+        w,
+        max,
+        room,
+        64,
+    );
     pass_down(&table, filter, room, sy, stepy, w, h, max, out, ostride)
 }
 
@@ -220,6 +254,23 @@ pub(crate) fn block_mean<'a>(
     let table = SUBPEL_FILTERS;
     let p = taps_at(&table, filter, sx % 16);
     let n = (sy % 16 + stepy * (h - 1)) / 16 + 8;
-    pass_across(&table, p, upper, lower, pw, ph, stride, k, sx, stepx, sy / 16, n, w, max, room, 64);
+    pass_across(
+        &table,
+        p,
+        upper,
+        lower,
+        pw,
+        ph,
+        stride,
+        k,
+        sx,
+        stepx,
+        sy / 16,
+        n,
+        w,
+        max,
+        room,
+        64,
+    );
     pass_down_mean(&table, filter, room, sy, stepy, w, h, max, out, ostride)
 }

@@ -74,10 +74,22 @@ returns c =
     let a = e .before .before .args in
     let one = fits (lent (a .geom) (a .upper .now) (a .lower .now)) in
     let two = also (a .shape .average) (fits (lent (a .geom2) (a .upper2 .now) (a .lower2 .now))) in
-    rw
-    (c .unless5 .ensures, c .before .unless4 .ensures, c .before .before .unless3 .ensures, u2 .unless2 .ensures, u1 .unless .ensures,
-      k .kind .ensures, fa .fits-also .ensures, f .fits2 .ensures, sa .starts-also .ensures, s .starts .ensures, za .sized-also .ensures,
-      z .sized .ensures, w2 .within2 .ensures, w1 .within .ensures)
+    rw (
+      c .unless5 .ensures,
+      c .before .unless4 .ensures,
+      c .before .before .unless3 .ensures,
+      u2 .unless2 .ensures,
+      u1 .unless .ensures,
+      k .kind .ensures,
+      fa .fits-also .ensures,
+      f .fits2 .ensures,
+      sa .starts-also .ensures,
+      s .starts .ensures,
+      za .sized-also .ensures,
+      z .sized .ensures,
+      w2 .within2 .ensures,
+      w1 .within .ensures,
+    )
     (table-same (within 1 64 (a .shape .w) && within 1 64 (a .shape .h)) _ _ _ (one && two) _ _
     (λ t. o .out-fits .ensures (within-both 1 64 (a .shape .h) (and-both (within 1 64 (a .shape .w)) (within 1 64 (a .shape .h)) t .1) .1)))
 

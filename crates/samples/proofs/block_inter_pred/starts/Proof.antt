@@ -26,10 +26,16 @@ returns c =
     let b1 = b2 .before .before in
     let f = b1 .before .before .args .from in
     let k = b1 .before .struct-told .given in
-    rw
-    (b1 .between .ensures, b2 .between2 .ensures, b3 .between3 .ensures, c .between4 .ensures,
+    rw (
+      b1 .between .ensures,
+      b2 .between2 .ensures,
+      b3 .between3 .ensures,
+      c .between4 .ensures,
       read-back (f .«start_x» .0) (k .0 .1 .1 .0 .1),
-      read-back (f .«start_y» .0) (k .1 .0 .1 .1 .0 .1), read-back (f .«step_x» .0) (k .1 .1 .0 .1 .1 .0 .1), read-back (f .«step_y» .0) (k .1 .1 .1 .0 .1 .1 .0 .1))
+      read-back (f .«start_y» .0) (k .1 .0 .1 .1 .0 .1),
+      read-back (f .«step_x» .0) (k .1 .1 .0 .1 .1 .0 .1),
+      read-back (f .«step_y» .0) (k .1 .1 .1 .0 .1 .1 .0 .1),
+    )
 
 pub starts-spec : {M : Type 1} → statement M
 starts-spec =
