@@ -5,5 +5,7 @@ pub mod Bridge
 pub mod Casts
 pub mod Filtered
 pub mod Loops
+pub mod Outcomes
+pub mod Reached
 pub mod Rows
 pub mod TapRules
