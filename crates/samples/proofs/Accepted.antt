@@ -16,7 +16,7 @@ use Rattle.base.proofs.Answered.{unless-zero}
 use Rattle.base.proofs.Tests.{clash, and-both, within-both, between-abs}
 use Rattle.samples.specs.Plane.{widthOf, heightOf, holds, sized}
 use Rattle.samples.specs.Call.{Ref, Call, also, kind, starts, fromRef, value, numberOf, outFits, after}
-use Rattle.samples.specs.Kernel.{Legal}
+use Rattle.samples.specs.Lifted.{Legal}
 use Rattle.samples.specs.Sample.{blend}
 use Rattle.samples.specs.declared.block_inter_pred.BlockShape.{BlockShape}
 

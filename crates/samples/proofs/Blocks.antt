@@ -8,11 +8,12 @@ use lib.IntN.{ℤ}
 use lib.ListN.{length, getD}
 use Rattle.base.specs.Paint.{fill, paint}
 use Rattle.base.proofs.Painted.{fill-same, fill-at, paint-at, paint-else, paint-same, paint-over}
-use Rattle.samples.specs.Taps.{tap}
+use Rattle.kernels.specs.Taps.{tap}
 use Rattle.samples.specs.Plane.{Lent, plane, rowOf, widthOf, heightOf}
-use Rattle.samples.specs.Kernel.{apart, ran, clipped, seat, level, listed, levels, acrossFrom, downAt, blockAt, meanOf, meanWith}
+use Rattle.kernels.specs.Kernel.{apart, ran, clipped, seat, level, listed, levels, meanOf}
+use Rattle.samples.specs.Lifted.{acrossFrom, downAt, blockAt, meanWith}
 use Rattle.samples.proofs.Bands.{row-at}
-use Rattle.samples.proofs.Filtered.{samples-same, filtered-whole, filtered-max}
+use Rattle.kernels.proofs.Filtered.{samples-same, filtered-whole, filtered-max}
 
 -- samples that agree up to the last one
 pub level-same : (max : ℕ) (taps : ℕ → ℕ → ℤ) (x y : ℕ → ℕ) (last q : ℕ) → ((u : ℕ) → u ≤ last → x u ≡ y u) → level max taps x last q ≡ level max taps y last q
@@ -25,13 +26,6 @@ pub row-level : (max : ℕ) (taps : ℕ → ℕ → ℤ) (p : Lent) (v start ste
 unfolding levels
 row-level max taps p v start step c wide =
     level-same max taps (listed (rowOf p v)) (plane p v) (widthOf (p .geom) - 1) (start + step * c) (λ u le. row-at p v u (omega arith))
-
--- phase 0 down is the fourth row
-pub down-whole : (max filter : ℕ) (room : List ℕ) (b c : ℕ) → filter < 4 → clipped max room (b + 192) c ≡ ran max (tap filter 0) room 64 b c
-unfolding clipped ran apart
-down-whole max filter room b c f4 =
-    let e : b + 192 + c ≡ b + c + 64 * 3 = omega arith in
-    rw e (sym (filtered-whole max filter (apart room 64 (b + c)) f4))
 
 -- whole rows need no vertical pass: the horizontal results from the fourth row on
 pub whole-rows : (max filter : ℕ) (p : Lent) (sx stepx sy r c : ℕ) → filter < 4 → sy % 16 ≡ 0
@@ -79,16 +73,6 @@ mean-unpainted out stride w r f g m ws =
     let e : getD (paint out stride w r f) (r * stride + c) 0 ≡ getD out (r * stride + c) 0
     = paint-else out stride w r f (r * stride + c)
     (λ i k ir kw q. omega (arith, suc-mul i stride, mul-le-mul-right stride ir)) in
-    rw e)
-
--- a row whose numbers are taken from a line that was filled
-pub mean-filled : (out line : List ℕ) (at w : ℕ) (f : ℕ → ℕ) (m : List ℕ) → w ≤ length line
-    → fill m at w (meanOf out at (listed (fill line 0 w f))) ≡ fill m at w (meanOf out at f)
-unfolding meanOf
-mean-filled out line at w f m long =
-    fill-same m at w _ _
-    (λ c cw.
-    let e : getD (fill line 0 w f) c 0 ≡ f c = rw zero-add at (fill-at line 0 w f (omega arith) c cw) in
     rw e)
 
 -- means taken in place of a painted rectangle

@@ -5,15 +5,17 @@ use Prim.Native.Nat.{ℕ, _+_, _-_, _*_, _%_, _^_}
 use lib.IntN.{ℤ}
 use Rattle.base.specs.Position.{toN, mod16, along, place}
 use Rattle.base.proofs.Lift.{Diff, Lifted, lifted, diff-along, place-lifted}
-use Rattle.samples.specs.Taps.{tap}
-use Rattle.samples.specs.Sample.{filtered, across, sample}
+use Rattle.kernels.specs.Taps.{tap}
+use Rattle.kernels.specs.Filter.{filtered}
+use Rattle.samples.specs.Sample.{across, sample}
 use Rattle.samples.specs.Plane.{Lent, lent, plane, widthOf, heightOf}
 use Rattle.samples.specs.Call.{ref, fromRef}
-use Rattle.samples.specs.Kernel.{seat, level, view, blockAt}
+use Rattle.kernels.specs.Kernel.{seat, level}
+use Rattle.samples.specs.Lifted.{view, blockAt}
 use Rattle.samples.specs.declared.block_inter_pred.BlockShape.{BlockShape}
 use Rattle.samples.specs.declared.block_inter_pred.Stepping.{Stepping}
 use Rattle.samples.specs.declared.plane.PlaneGeom.{PlaneGeom}
-use Rattle.samples.proofs.Filtered.{filtered-same, samples-same}
+use Rattle.kernels.proofs.Filtered.{filtered-same, samples-same}
 
 -- one pass
 level-is : (max : ℕ) (taps : ℕ → ℕ → ℤ) (x : ℕ → ℕ) (last : ℕ) (z : ℤ) (q : ℕ) → Lifted z q 200000

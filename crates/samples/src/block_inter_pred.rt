@@ -12,7 +12,7 @@ ghost use Rattle.samples.specs.Plane as Plane;
 ghost use Rattle.samples.specs.Plane.{lent};
 ghost use Rattle.samples.specs.Call as Call;
 ghost use Rattle.samples.specs.Call.{also, call, fromRef, numberOf, ref, value, Outcome};
-ghost use Rattle.samples.specs.Kernel.{Legal, meanWith};
+ghost use Rattle.samples.specs.Lifted.{Legal, meanWith};
 use crate::passes::block;
 use crate::passes::block_mean;
 use crate::plane::PlaneGeom;
@@ -111,7 +111,8 @@ fn refusal<'a>(
     m: usize,
 ) -> u32
     ensures { λ r. ⌜ r ≡ numberOf
-        (call shape (ref (lent geom (now (upper .entry)) (now (lower .entry))) from) (ref (lent geom2 (now (upper2 .entry)) (now (lower2 .entry))) from2) stride)
+        (call shape (ref (lent geom (now (upper .entry)) (now (lower .entry))) from)
+        (ref (lent geom2 (now (upper2 .entry)) (now (lower2 .entry))) from2) stride)
         n m ⌝ }
 {
     let a = shape.average;
@@ -271,7 +272,8 @@ pub fn block_inter_predict<'a>(
     stride: usize,
 ) -> u32
     ensures { λ r. ⌜ Outcome
-        (call shape (ref (lent geom (now (upper .entry)) (now (lower .entry))) from) (ref (lent geom2 (now (upper2 .entry)) (now (lower2 .entry))) from2) stride)
+        (call shape (ref (lent geom (now (upper .entry)) (now (lower .entry))) from)
+        (ref (lent geom2 (now (upper2 .entry)) (now (lower2 .entry))) from2) stride)
         (now (out .entry)) (now (room .entry)) r (now (out .exit)) (now (room .exit)) ⌝ }
 {
     let n = out.len();

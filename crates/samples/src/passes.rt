@@ -3,18 +3,19 @@ ghost use mathlib.Core.Path.{_≡_};
 ghost use mathlib.Core.Bool.{true};
 ghost use Prim.Native.Nat.{_+_, _-_, _*_, _/_, _%_, _≤_, _<_};
 ghost use lib.ListN.{length};
-ghost use Rattle.base.specs.Paint.{fill, paint};
-ghost use Rattle.samples.specs.Taps.{filters, tap};
+ghost use Rattle.base.specs.Paint.{paint};
+ghost use Rattle.kernels.specs.Taps.{filters, tap};
 ghost use Rattle.samples.specs.Plane.{holds, fits};
-ghost use Rattle.samples.specs.Kernel.{IsTaps, ran, listed, view, acrossFrom, downAt, blockAt, meanOf, meanWith};
-use crate::kernels::held;
-use crate::kernels::row_across;
-use crate::kernels::row_clipped;
-use crate::kernels::row_filtered;
+ghost use Rattle.kernels.specs.Kernel.{IsTaps};
+ghost use Rattle.samples.specs.Lifted.{view, acrossFrom, downAt, blockAt, meanWith};
 use crate::plane::plane_row;
-use crate::taps::SUBPEL_FILTERS;
-use crate::taps::Taps;
-use crate::taps::taps_at;
+use kernels::SUBPEL_FILTERS;
+use kernels::Taps;
+use kernels::held;
+use kernels::row_across;
+use kernels::row_down;
+use kernels::row_down_mean;
+use kernels::taps_at;
 
 // The horizontal pass: n rows from the lifted row y0 on, w columns each.
 fn pass_across<'a>(
@@ -41,7 +42,8 @@ fn pass_across<'a>(
     requires { ⌜ (0 < pw) × (0 < ph) × (y0 ≤ 400003) × (n ≤ 134) ⌝ }
     requires { ⌜ fits (view pw ph stride k (now upper) (now lower)) ≡ true ⌝ }
     requires { ⌜ holds n rs w (length (now room)) ≡ true ⌝ }
-    ensures { λ _. ⌜ now (room .exit) ≡ paint (now (room .entry)) rs w n (acrossFrom max (tap (p .filter)) (view pw ph stride k (now (upper .entry)) (now (lower .entry))) start step y0) ⌝ }
+    ensures { λ _. ⌜ now (room .exit) ≡ paint (now (room .entry)) rs w n
+        (acrossFrom max (tap (p .filter)) (view pw ph stride k (now (upper .entry)) (now (lower .entry))) start step y0) ⌝ }
 {
     let mut i = 0;
     while i < n {
@@ -50,19 +52,6 @@ fn pass_across<'a>(
         row_across(table, p, r, pw - 1, start, step, w, max, room, i * rs);
         i += 1;
     }
-}
-
-// A row of vertical results: phase 0 is the fourth of its eight rows.
-fn row_down(p: Taps, room: &[u16], b: usize, w: usize, max: u16, out: &mut [u16], at: usize)
-    requires { ⌜ IsTaps p ⌝ }
-    requires { ⌜ (p .filter < 4) × (b + w + 448 ≤ length (now room)) × (at + w ≤ length (now out)) ⌝ }
-    ensures { λ _. ⌜ now (out .exit) ≡ fill (now (out .entry)) at w (ran max (tap (p .filter) (p .phase)) (now (room .entry)) 64 b) ⌝ }
-{
-    if p.phase == 0 {
-        row_clipped(room, b + 192, w, max, out, at);
-        return;
-    }
-    row_filtered(room, 64, b, p, w, max, out, at)
 }
 
 // The vertical pass: h rows of the output.
@@ -93,36 +82,6 @@ fn pass_down(
     }
 }
 
-fn mean(a: u16, b: u16) -> u16
-    ensures { λ r. ⌜ r ≡ (a + b + 1) / 2 ⌝ }
-{
-    ((a as u32 + b as u32 + 1) / 2) as u16
-}
-
-// The rounded means of a row of the output and of the first w numbers of a line.
-fn row_mean(line: &[u16], w: usize, out: &mut [u16], at: usize)
-    requires { ⌜ (w ≤ length (now line)) × (at + w ≤ length (now out)) ⌝ }
-    ensures { λ _. ⌜ now (out .exit) ≡ fill (now (out .entry)) at w (meanOf (now (out .entry)) at (listed (now (line .entry)))) ⌝ }
-{
-    let mut c = 0;
-    while c < w {
-        let o = at + c;
-        out[o] = mean(out[o], line[c]);
-        c += 1;
-    }
-}
-
-// A row of vertical results, averaged with what stands in the output.
-fn row_down_mean(p: Taps, room: &[u16], b: usize, w: usize, max: u16, out: &mut [u16], at: usize)
-    requires { ⌜ IsTaps p ⌝ }
-    requires { ⌜ (p .filter < 4) × (w ≤ 64) × (b + w + 448 ≤ length (now room)) × (at + w ≤ length (now out)) ⌝ }
-    ensures { λ _. ⌜ now (out .exit) ≡ fill (now (out .entry)) at w (meanOf (now (out .entry)) at (ran max (tap (p .filter) (p .phase)) (now (room .entry)) 64 b)) ⌝ }
-{
-    let mut line = [0u16; 64];
-    row_down(p, room, b, w, max, &mut line, 0);
-    row_mean(&line, w, out, at)
-}
-
 // The vertical pass, averaged into the output.
 fn pass_down_mean(
     table: &[[[i16; 8]; 16]; 4],
@@ -139,7 +98,8 @@ fn pass_down_mean(
     requires { ⌜ now table ≡ filters ⌝ }
     requires { ⌜ (filter < 4) × (start ≤ 6400000) × (step ≤ 32) × (w ≤ 64) × (h ≤ 64) × (8576 ≤ length (now room)) × (w ≤ stride) ⌝ }
     requires { ⌜ holds h stride w (length (now out)) ≡ true ⌝ }
-    ensures { λ _. ⌜ now (out .exit) ≡ paint (now (out .entry)) stride w h (meanWith (now (out .entry)) stride (downAt max (tap filter) (now (room .entry)) start step)) ⌝ }
+    ensures { λ _. ⌜ now (out .exit) ≡ paint (now (out .entry)) stride w h
+        (meanWith (now (out .entry)) stride (downAt max (tap filter) (now (room .entry)) start step)) ⌝ }
 {
     let mut r = 0;
     while r < h {

@@ -8,7 +8,7 @@ ghost use Rattle.base.specs.Answer.{answer};
 ghost use Rattle.base.specs.Number as Number;
 ghost use Rattle.samples.specs.Plane as Plane;
 ghost use Rattle.samples.specs.Plane.{lent, readRows, rowOf, ReadOutcome};
-ghost use Rattle.samples.specs.Kernel.{view};
+ghost use Rattle.samples.specs.Lifted.{view};
 use base::SHORT;
 use base::SIZE;
 use base::START;

@@ -8,7 +8,7 @@ use Rattle.base.proofs.Lift.{Start}
 use Rattle.base.proofs.Painted.{length-paint, paint-same}
 use Rattle.samples.specs.Plane.{lent}
 use Rattle.samples.specs.Call.{ref, Call, call}
-use Rattle.samples.specs.Kernel.{apart}
+use Rattle.kernels.specs.Kernel.{apart}
 use Rattle.samples.proofs.Accepted.{legal-says, Taken, accepted, value-two, value-one}
 use Rattle.samples.proofs.Bands.{holds-row}
 use Rattle.samples.proofs.Blocks.{mean-painted}

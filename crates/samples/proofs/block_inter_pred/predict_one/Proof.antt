@@ -10,7 +10,7 @@ use Rattle.samples.specs.Plane.{lent, fits}
 use Rattle.samples.specs.Call.{ref}
 use Rattle.samples.proofs.Accepted.{Facts, legal-says}
 use Rattle.samples.proofs.Bridge.{bridge}
-use Rattle.samples.proofs.Casts.{read-back}
+use Rattle.kernels.proofs.Casts.{read-back}
 use Rattle.samples.proofs.block_inter_pred.predict_one.Statement.{statement}
 use Rattle.samples.proofs.block_inter_pred.predict_one.Tie as tie
 
@@ -63,8 +63,10 @@ block-requires c κs =
     let f = facts s in
     let lx = l1 .lift .ensures .1 in
     let ly = l2 .lift2 .ensures .1 in
-    rw (ew, eh)
-    (omega (arith, f .filter, f .w, f .h, f .across, f .down, lx, ly, ex, ey), (omega (arith, f .width, f .height, s .pre .1), (s .pre .0 .bands, s .pre .1 .0)))
+    rw (ew, eh) (
+      omega (arith, f .filter, f .w, f .h, f .across, f .down, lx, ly, ex, ey),
+      (omega (arith, f .width, f .height, s .pre .1), (s .pre .0 .bands, s .pre .1 .0)),
+    )
 
 same-length : tie.Need-same-length
 same-length c = search needs

@@ -10,10 +10,11 @@ use Rattle.base.proofs.Painted.{paint-same}
 use Rattle.samples.specs.Sample.{across}
 use Rattle.samples.specs.Plane.{lent, fits}
 use Rattle.samples.specs.Call.{ref}
-use Rattle.samples.specs.Kernel.{meanWith, meanOf}
+use Rattle.kernels.specs.Kernel.{meanOf}
+use Rattle.samples.specs.Lifted.{meanWith}
 use Rattle.samples.proofs.Accepted.{Facts, legal-says}
 use Rattle.samples.proofs.Bridge.{bridge}
-use Rattle.samples.proofs.Casts.{read-back}
+use Rattle.kernels.proofs.Casts.{read-back}
 use Rattle.samples.proofs.block_inter_pred.predict_two.Statement.{statement}
 use Rattle.samples.proofs.block_inter_pred.predict_two.Tie as tie
 
@@ -66,8 +67,10 @@ block-mean-requires c κs =
     let f = facts s in
     let lx = l1 .lift .ensures .1 in
     let ly = l2 .lift2 .ensures .1 in
-    rw (ew, eh)
-    (omega (arith, f .filter, f .w, f .h, f .across, f .down, lx, ly, ex, ey), (omega (arith, f .width, f .height, s .pre .1), (s .pre .0 .bands, s .pre .1 .0)))
+    rw (ew, eh) (
+      omega (arith, f .filter, f .w, f .h, f .across, f .down, lx, ly, ex, ey),
+      (omega (arith, f .width, f .height, s .pre .1), (s .pre .0 .bands, s .pre .1 .0)),
+    )
 
 same-length : tie.Need-same-length
 same-length c = search needs

@@ -9,9 +9,9 @@ use lib.ListN.{length}
 use Rattle.base.proofs.Lift.{Start}
 use Rattle.base.proofs.Painted.{length-paint, paint-same}
 use Rattle.base.proofs.Tests.{and-both}
-use Rattle.samples.specs.Taps.{filters, tap, regular, smooth, sharp, bilinear}
+use Rattle.kernels.specs.Taps.{filters, tap, regular, smooth, sharp, bilinear}
 use Rattle.samples.specs.Plane.{Lent}
-use Rattle.samples.specs.Kernel.{view}
+use Rattle.samples.specs.Lifted.{view}
 use Rattle.samples.proofs.Bands.{holds-long}
 use Rattle.samples.proofs.Blocks.{whole-rows, both-passes}
 use Rattle.samples.proofs.passes.block.Statement.{statement}
@@ -76,8 +76,19 @@ unfolding filters regular smooth sharp bilinear
 pass-across-requires-2 c κs =
     let t = c .before .before .before in
     let s = entry t in
-    let e = t .taps-at .ensures in
-    (refl, (e .0, (omega (arith, e .1, e .2, s .pre .0), (omega (arith, s .pre .0, s .pre .1 .0, far s), (s .pre .1 .1 .0, holds-long _ _ _ _ (omega (arith, s .pre .0, s .pre .1 .0, far s)))))))
+    let e = t .taps-at .ensures in (
+      refl,
+      (
+        e .0,
+        (
+          omega (arith, e .1, e .2, s .pre .0),
+          (
+            omega (arith, s .pre .0, s .pre .1 .0, far s),
+            (s .pre .1 .1 .0, holds-long _ _ _ _ (omega (arith, s .pre .0, s .pre .1 .0, far s))),
+          ),
+        ),
+      ),
+    )
 
 pass-down-requires : tie.Need-pass-down-requires
 unfolding filters regular smooth sharp bilinear

@@ -7,9 +7,10 @@ use borrow.Author.Needs.{needs}
 use lib.ListN.{length, getD}
 use Rattle.base.proofs.Lift.{Start}
 use Rattle.base.proofs.Painted.{length-paint, paint-same}
-use Rattle.samples.specs.Taps.{filters, tap, regular, smooth, sharp, bilinear}
+use Rattle.kernels.specs.Taps.{filters, tap, regular, smooth, sharp, bilinear}
 use Rattle.samples.specs.Plane.{Lent}
-use Rattle.samples.specs.Kernel.{view, meanWith, meanOf}
+use Rattle.kernels.specs.Kernel.{meanOf}
+use Rattle.samples.specs.Lifted.{view, meanWith}
 use Rattle.samples.proofs.Bands.{holds-long}
 use Rattle.samples.proofs.Blocks.{both-passes}
 use Rattle.samples.proofs.passes.block_mean.Statement.{statement}
@@ -45,8 +46,19 @@ unfolding filters regular smooth sharp bilinear
 pass-across-requires c κs =
     let t = c .before .before in
     let s = entry t in
-    let e = t .taps-at .ensures in
-    (refl, (e .0, (omega (arith, e .1, e .2, s .pre .0), (omega (arith, s .pre .0, s .pre .1 .0, far s), (s .pre .1 .1 .0, holds-long _ _ _ _ (omega (arith, s .pre .0, s .pre .1 .0, far s)))))))
+    let e = t .taps-at .ensures in (
+      refl,
+      (
+        e .0,
+        (
+          omega (arith, e .1, e .2, s .pre .0),
+          (
+            omega (arith, s .pre .0, s .pre .1 .0, far s),
+            (s .pre .1 .1 .0, holds-long _ _ _ _ (omega (arith, s .pre .0, s .pre .1 .0, far s))),
+          ),
+        ),
+      ),
+    )
 
 pass-down-mean-requires : tie.Need-pass-down-mean-requires
 unfolding filters regular smooth sharp bilinear

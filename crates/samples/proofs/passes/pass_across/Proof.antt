@@ -7,12 +7,12 @@ use lib.ListN.{length}
 use Rattle.base.specs.Answer.{row}
 use Rattle.base.proofs.Lift.{Start}
 use Rattle.base.proofs.Painted.{fill-same}
-use Rattle.samples.specs.Taps.{tap}
+use Rattle.kernels.specs.Taps.{tap}
 use Rattle.samples.specs.Plane.{rowOf}
-use Rattle.samples.specs.Kernel.{view, acrossFrom}
+use Rattle.samples.specs.Lifted.{view, acrossFrom}
 use Rattle.samples.proofs.Bands.{holds-row}
 use Rattle.samples.proofs.Blocks.{row-level}
-use Rattle.samples.proofs.Loops.{Painting, paint-none, paint-turn}
+use Rattle.kernels.proofs.Loops.{Painting, paint-none, paint-turn}
 use Rattle.samples.proofs.passes.pass_across.Statement.{statement}
 use Rattle.samples.proofs.passes.pass_across.Tie as tie
 

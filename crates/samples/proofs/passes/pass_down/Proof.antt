@@ -6,10 +6,10 @@ use native.Mathlib.Omega.{arith}
 use borrow.Author.Needs.{needs}
 use lib.ListN.{length}
 use Rattle.base.proofs.Lift.{Start}
-use Rattle.samples.specs.Taps.{tap}
-use Rattle.samples.specs.Kernel.{downAt}
+use Rattle.kernels.specs.Taps.{tap}
+use Rattle.samples.specs.Lifted.{downAt}
 use Rattle.samples.proofs.Bands.{holds-row}
-use Rattle.samples.proofs.Loops.{Painting, paint-none, paint-turn}
+use Rattle.kernels.proofs.Loops.{Painting, paint-none, paint-turn}
 use Rattle.samples.proofs.passes.pass_down.Statement.{statement}
 use Rattle.samples.proofs.passes.pass_down.Tie as tie
 

@@ -8,16 +8,18 @@ use borrow.Author.Needs.{needs}
 use lib.ListN.{length}
 use Rattle.base.specs.Paint.{fill}
 use Rattle.base.proofs.Lift.{Start}
-use Rattle.samples.specs.Taps.{tap}
-use Rattle.samples.specs.Kernel.{downAt, meanWith, meanOf}
+use Rattle.kernels.specs.Taps.{tap}
+use Rattle.kernels.specs.Kernel.{meanOf}
+use Rattle.samples.specs.Lifted.{downAt, meanWith}
 use Rattle.samples.proofs.Bands.{holds-row}
 use Rattle.samples.proofs.Blocks.{mean-unpainted}
-use Rattle.samples.proofs.Loops.{Painting, paint-none, paint-turn}
+use Rattle.kernels.proofs.Loops.{Painting, paint-none, paint-turn}
 use Rattle.samples.proofs.passes.pass_down_mean.Statement.{statement}
 use Rattle.samples.proofs.passes.pass_down_mean.Tie as tie
 
 abbrev Inv-loop : tie.InvT-loop
-Inv-loop table filter room start step w h max out₀ stride r₀ out r = (r ≤ h) × Painting out₀ stride w r (meanWith out₀ stride (downAt max (tap filter) room start step)) out
+Inv-loop table filter room start step w h max out₀ stride r₀ out r =
+    (r ≤ h) × Painting out₀ stride w r (meanWith out₀ stride (downAt max (tap filter) room start step)) out
 
 abbrev μ-loop : tie.MeasureT-loop
 μ-loop table filter room start step w h max out₀ stride r₀ out r = h - r

@@ -1,7 +1,7 @@
 -- `samples::plane::fits` meets its contract. Assumes nothing.
 use borrow.Author.Needs.{needs}
 use Rattle.samples.specs.Plane.{fits}
-use Rattle.samples.proofs.Casts.{read-back, small-nat}
+use Rattle.kernels.proofs.Casts.{read-back, small-nat}
 use Rattle.samples.proofs.plane.fits.Statement.{statement}
 use Rattle.samples.proofs.plane.fits.Tie as tie
 

@@ -3,7 +3,7 @@ use native.Mathlib.Omega.{arith}
 use borrow.Author.Tests.{lt-ltb, le-ltb}
 use borrow.Author.Needs.{needs}
 use Rattle.samples.specs.Plane.{rowOf}
-use Rattle.samples.specs.Kernel.{view}
+use Rattle.samples.specs.Lifted.{view}
 use Rattle.samples.proofs.Bands.{fits-says}
 use Rattle.samples.proofs.plane.plane_row.Statement.{statement}
 use Rattle.samples.proofs.plane.plane_row.Tie as tie

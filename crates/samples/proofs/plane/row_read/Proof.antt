@@ -6,7 +6,7 @@ use borrow.Author.Needs.{needs}
 use Rattle.base.specs.Answer.{row}
 use Rattle.samples.specs.Plane.{lent, fits, rowOf}
 use Rattle.samples.proofs.Bands.{read-accepted}
-use Rattle.samples.proofs.Casts.{read-back}
+use Rattle.kernels.proofs.Casts.{read-back}
 use Rattle.samples.proofs.plane.row_read.Statement.{statement}
 use Rattle.samples.proofs.plane.row_read.Tie as tie
 

@@ -2,7 +2,7 @@
 use borrow.Author.Needs.{needs}
 use Rattle.base.specs.Number.{between}
 use Rattle.samples.specs.Plane.{sized}
-use Rattle.samples.proofs.Casts.{read-back}
+use Rattle.kernels.proofs.Casts.{read-back}
 use Rattle.samples.proofs.plane.sized.Statement.{statement}
 use Rattle.samples.proofs.plane.sized.Tie as tie
 
