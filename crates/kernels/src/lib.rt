@@ -7,6 +7,6 @@ pub use down::row_down;
 pub use down::row_down_mean;
 pub use rows::held;
 pub use rows::row_across;
-pub use taps::SUBPEL_FILTERS;
 pub use taps::Taps;
+pub use taps::subpel_filters;
 pub use taps::taps_at;

@@ -5,7 +5,7 @@ ghost use Rattle.kernels.specs.Taps.{filters, tap};
 ghost use Rattle.kernels.specs.Kernel.{Raised, IsTaps};
 
 // Filter, in the order of interp_filter: 0 regular, 1 smooth, 2 sharp, 3 bilinear; then phase; then tap.
-pub const SUBPEL_FILTERS: [[[i16; 8]; 16]; 4] = [
+const SUBPEL_FILTERS: [[[i16; 8]; 16]; 4] = [
     [
         [0, 0, 0, 128, 0, 0, 0, 0],
         [0, 1, -5, 126, 8, -3, 1, 0],
@@ -79,6 +79,13 @@ pub const SUBPEL_FILTERS: [[[i16; 8]; 16]; 4] = [
         [0, 0, 0, 8, 120, 0, 0, 0],
     ],
 ];
+
+// The whole table, to be lent to whoever fetches taps: made once for a block.
+pub fn subpel_filters() -> [[[i16; 8]; 16]; 4]
+    ensures { λ r. ⌜ r ≡ filters ⌝ }
+{
+    SUBPEL_FILTERS
+}
 
 // A row of the table, each tap with 24 added, so that none is below zero.
 pub struct Taps {

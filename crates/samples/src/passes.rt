@@ -9,12 +9,12 @@ ghost use Rattle.samples.specs.Plane.{holds, fits};
 ghost use Rattle.kernels.specs.Kernel.{IsTaps};
 ghost use Rattle.samples.specs.Lifted.{view, acrossFrom, downAt, blockAt, meanWith};
 use crate::plane::plane_row;
-use kernels::SUBPEL_FILTERS;
 use kernels::Taps;
 use kernels::held;
 use kernels::row_across;
 use kernels::row_down;
 use kernels::row_down_mean;
+use kernels::subpel_filters;
 use kernels::taps_at;
 
 // The horizontal pass: n rows from the lifted row y0 on, w columns each.
@@ -138,7 +138,7 @@ pub(crate) fn block<'a>(
     ensures { λ _. ⌜ now (out .exit) ≡ paint (now (out .entry)) ostride w h
         (blockAt max (tap filter) (view pw ph stride k (now (upper .entry)) (now (lower .entry))) sx stepx sy stepy) ⌝ }
 {
-    let table = SUBPEL_FILTERS;
+    let table = subpel_filters();
     let p = taps_at(&table, filter, sx % 16);
     if (sy % 16 == 0) & (stepy == 16) {
         pass_across(
@@ -211,7 +211,7 @@ pub(crate) fn block_mean<'a>(
         (meanWith (now (out .entry)) ostride
         (blockAt max (tap filter) (view pw ph stride k (now (upper .entry)) (now (lower .entry))) sx stepx sy stepy)) ⌝ }
 {
-    let table = SUBPEL_FILTERS;
+    let table = subpel_filters();
     let p = taps_at(&table, filter, sx % 16);
     let n = (sy % 16 + stepy * (h - 1)) / 16 + 8;
     pass_across(

@@ -1,5 +1,5 @@
 -- `samples::passes::block` meets its contract: the two passes, or the one that is needed. Assumes nothing.
-use mathlib.Core.Path.{_≡_, refl, ap, _∙_}
+use mathlib.Core.Path.{_≡_, ap, _∙_}
 use Prim.Native.Nat.{_-_, _*_, _%_, _≤_}
 use native.Mathlib.Nat.{mul-le-mul}
 use native.Mathlib.Omega.{arith}
@@ -9,7 +9,7 @@ use lib.ListN.{length}
 use Rattle.base.proofs.Lift.{Start}
 use Rattle.base.proofs.Painted.{length-paint, paint-same}
 use Rattle.base.proofs.Tests.{and-both}
-use Rattle.kernels.specs.Taps.{filters, tap, regular, smooth, sharp, bilinear}
+use Rattle.kernels.specs.Taps.{tap}
 use Rattle.samples.specs.Plane.{Lent}
 use Rattle.samples.specs.Lifted.{view}
 use Rattle.samples.proofs.Bands.{holds-long}
@@ -18,7 +18,7 @@ use Rattle.samples.proofs.passes.block.Statement.{statement}
 use Rattle.samples.proofs.passes.block.Tie as tie
 
 abbrev entry : tie.After-taps-at → tie.Start
-entry t = let a = t .before .before .before in a .before .before .before
+entry t = let a = t .before .before .before in let b = a .before .before .before in b .before
 
 far : (s : tie.Start) → s .args .stepy * (s .args .h - 1) ≤ 32 * 63
 far s = mul-le-mul {n₂ = 32} {m₂ = 63} (omega (arith, s .pre .0)) (omega (arith, s .pre .0))
@@ -26,20 +26,24 @@ far s = mul-le-mul {n₂ = 32} {m₂ = 63} (omega (arith, s .pre .0)) (omega (ar
 abbrev plane : tie.Start → Lent
 plane s = let a = s .args in view (a .pw) (a .ph) (a .stride) (a .k) (a .upper .now) (a .lower .now)
 
+subpel-filters-requires : tie.Need-subpel-filters-requires
+subpel-filters-requires c κs = search needs
+
 taps-at-requires : tie.Need-taps-at-requires
-unfolding filters regular smooth sharp bilinear
-taps-at-requires c κs = let a = c .before .before .before in let s = a .before .before in (refl, omega (arith, s .pre .0))
+taps-at-requires c κs =
+    let a = c .before .before .before in
+    let s = a .before .before .before in
+    (c .before .subpel-filters .ensures, omega (arith, s .pre .0))
 
 add-pass-across : tie.Need-add-pass-across
 add-pass-across c = search needs
 
 pass-across-requires : tie.Need-pass-across-requires
-unfolding filters regular smooth sharp bilinear
 pass-across-requires c κs =
     let t = c .before .before .before in
     let s = entry t in
     let e = t .taps-at .ensures in
-    (refl, (e .0, (omega (arith, e .1, e .2, s .pre .0), (omega (arith, s .pre .0, s .pre .1 .0, far s), (s .pre .1 .1 .0, s .pre .1 .1 .1)))))
+    (t .before .before .subpel-filters .ensures, (e .0, (omega (arith, e .1, e .2, s .pre .0), (omega (arith, s .pre .0, s .pre .1 .0, far s), (s .pre .1 .1 .0, s .pre .1 .1 .1)))))
 
 same-length : tie.Need-same-length
 same-length c = search needs
@@ -72,12 +76,11 @@ add-n-2 : tie.Need-add-n-2
 add-n-2 c = let s = entry (c .before) in omega (arith, far s)
 
 pass-across-requires-2 : tie.Need-pass-across-requires-2
-unfolding filters regular smooth sharp bilinear
 pass-across-requires-2 c κs =
     let t = c .before .before .before in
     let s = entry t in
     let e = t .taps-at .ensures in (
-      refl,
+      t .before .before .subpel-filters .ensures,
       (
         e .0,
         (
@@ -91,7 +94,6 @@ pass-across-requires-2 c κs =
     )
 
 pass-down-requires : tie.Need-pass-down-requires
-unfolding filters regular smooth sharp bilinear
 pass-down-requires c κs =
     let x1 = c .before .before .before in
     let x = x1 .before .before in
@@ -99,7 +101,7 @@ pass-down-requires c κs =
     let t = t1 .before in
     let s = entry t in
     let long = ap length (x .pass-across2 .ensures) ∙ length-paint _ _ _ _ _ in
-    (refl, (omega (arith, s .pre .0, s .pre .1 .0, long), s .pre .1 .1 .1))
+    (t .before .before .subpel-filters .ensures, (omega (arith, s .pre .0, s .pre .1 .0, long), s .pre .1 .1 .1))
 
 same-length-2 : tie.Need-same-length-2
 same-length-2 c = search needs
@@ -126,6 +128,7 @@ pub block-spec : {M : Type 1} → statement M
 block-spec =
     tie.close
     (tie.spec
+    subpel-filters-requires
     taps-at-requires
     add-pass-across
     pass-across-requires

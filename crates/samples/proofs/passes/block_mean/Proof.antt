@@ -1,5 +1,5 @@
 -- `samples::passes::block_mean` meets its contract: the two passes, and the means. Assumes nothing.
-use mathlib.Core.Path.{refl, ap, _∙_}
+use mathlib.Core.Path.{ap, _∙_}
 use Prim.Native.Nat.{ℕ, _+_, _-_, _*_, _/_, _≤_}
 use native.Mathlib.Nat.{mul-le-mul}
 use native.Mathlib.Omega.{arith}
@@ -7,7 +7,7 @@ use borrow.Author.Needs.{needs}
 use lib.ListN.{length, getD}
 use Rattle.base.proofs.Lift.{Start}
 use Rattle.base.proofs.Painted.{length-paint, paint-same}
-use Rattle.kernels.specs.Taps.{filters, tap, regular, smooth, sharp, bilinear}
+use Rattle.kernels.specs.Taps.{tap}
 use Rattle.samples.specs.Plane.{Lent}
 use Rattle.kernels.specs.Kernel.{meanOf}
 use Rattle.samples.specs.Lifted.{view, meanWith}
@@ -17,7 +17,7 @@ use Rattle.samples.proofs.passes.block_mean.Statement.{statement}
 use Rattle.samples.proofs.passes.block_mean.Tie as tie
 
 abbrev entry : tie.After-taps-at → tie.Start
-entry t = let a = t .before .before .before in a .before .before .before
+entry t = let a = t .before .before .before in let b = a .before .before .before in b .before
 
 far : (s : tie.Start) → s .args .stepy * (s .args .h - 1) ≤ 32 * 63
 far s = mul-le-mul {n₂ = 32} {m₂ = 63} (omega (arith, s .pre .0)) (omega (arith, s .pre .0))
@@ -25,9 +25,14 @@ far s = mul-le-mul {n₂ = 32} {m₂ = 63} (omega (arith, s .pre .0)) (omega (ar
 abbrev plane : tie.Start → Lent
 plane s = let a = s .args in view (a .pw) (a .ph) (a .stride) (a .k) (a .upper .now) (a .lower .now)
 
+subpel-filters-requires : tie.Need-subpel-filters-requires
+subpel-filters-requires c κs = search needs
+
 taps-at-requires : tie.Need-taps-at-requires
-unfolding filters regular smooth sharp bilinear
-taps-at-requires c κs = let a = c .before .before .before in let s = a .before .before in (refl, omega (arith, s .pre .0))
+taps-at-requires c κs =
+    let a = c .before .before .before in
+    let s = a .before .before .before in
+    (c .before .subpel-filters .ensures, omega (arith, s .pre .0))
 
 sub-n : tie.Need-sub-n
 sub-n c = search needs
@@ -42,12 +47,11 @@ add-n-2 : tie.Need-add-n-2
 add-n-2 c = let s = entry (c) in omega (arith, far s)
 
 pass-across-requires : tie.Need-pass-across-requires
-unfolding filters regular smooth sharp bilinear
 pass-across-requires c κs =
     let t = c .before .before in
     let s = entry t in
     let e = t .taps-at .ensures in (
-      refl,
+      t .before .before .subpel-filters .ensures,
       (
         e .0,
         (
@@ -61,14 +65,13 @@ pass-across-requires c κs =
     )
 
 pass-down-mean-requires : tie.Need-pass-down-mean-requires
-unfolding filters regular smooth sharp bilinear
 pass-down-mean-requires c κs =
     let x1 = c .before .before .before in
     let x = x1 .before .before in
     let t = x .before .before .before in
     let s = entry t in
     let long = ap length (x .pass-across .ensures) ∙ length-paint _ _ _ _ _ in
-    (refl, (omega (arith, s .pre .0, s .pre .1 .0, long), s .pre .1 .1 .1))
+    (t .before .before .subpel-filters .ensures, (omega (arith, s .pre .0, s .pre .1 .0, long), s .pre .1 .1 .1))
 
 same-length : tie.Need-same-length
 same-length c = search needs
@@ -96,6 +99,7 @@ pub block-mean-spec : {M : Type 1} → statement M
 block-mean-spec =
     tie.close
     (tie.spec
+    subpel-filters-requires
     taps-at-requires
     sub-n
     mul-n
