@@ -94,9 +94,13 @@ fn mode_counters_and_contexts() {
 
 #[test]
 fn taps() {
-    let specs = source("crates/samples/specs/Taps.antt");
+    let specs = source("crates/kernels/specs/Taps.antt");
     assert_eq!(
         signed(part(&specs, "regular =", "unfoldable pub filters")),
+        tables::taps()
+    );
+    assert_eq!(
+        constant("crates/kernels/src/taps.rt", "SUBPEL_FILTERS"),
         tables::taps()
     );
 }

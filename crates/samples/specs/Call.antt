@@ -11,7 +11,7 @@ use Rattle.base.specs.Answer.{Row, row, answer, BLOCK, FILTER, SIZE, START, SHO
 use Rattle.base.specs.Number.{between, within}
 use Rattle.base.specs.Position.{toN, along}
 use Rattle.base.specs.Paint.{paint}
-use Rattle.samples.specs.Taps.{tap}
+use Rattle.kernels.specs.Taps.{tap}
 use Rattle.samples.specs.Sample.{sample, blend}
 use Rattle.samples.specs.Plane.{Lent, plane, widthOf, heightOf, holds, sized, fits}
 use Rattle.samples.specs.declared.block_inter_pred.BlockShape.{BlockShape}

@@ -1,0 +1,5 @@
+pub mod Casts
+pub mod Filtered
+pub mod Lines
+pub mod Loops
+pub mod TapRules

@@ -1,0 +1,62 @@
+// Rows of vertical results, plain and averaged into the output.
+ghost use mathlib.Core.Path.{_≡_};
+ghost use Prim.Native.Nat.{_+_, _/_, _≤_, _<_};
+ghost use lib.ListN.{length};
+ghost use Rattle.base.specs.Paint.{fill};
+ghost use Rattle.kernels.specs.Taps.{tap};
+ghost use Rattle.kernels.specs.Kernel.{IsTaps, ran, listed, meanOf};
+use crate::rows::row_clipped;
+use crate::rows::row_filtered;
+use crate::taps::Taps;
+
+// A row of vertical results: phase 0 is the fourth of its eight rows.
+pub fn row_down(p: Taps, room: &[u16], b: usize, w: usize, max: u16, out: &mut [u16], at: usize)
+    requires { ⌜ IsTaps p ⌝ }
+    requires { ⌜ (p .filter < 4) × (b + w + 448 ≤ length (now room)) × (at + w ≤ length (now out)) ⌝ }
+    ensures { λ _. ⌜ now (out .exit) ≡ fill (now (out .entry)) at w (ran max (tap (p .filter) (p .phase)) (now (room .entry)) 64 b) ⌝ }
+{
+    if p.phase == 0 {
+        row_clipped(room, b + 192, w, max, out, at);
+        return;
+    }
+    row_filtered(room, 64, b, p, w, max, out, at)
+}
+
+fn mean(a: u16, b: u16) -> u16
+    ensures { λ r. ⌜ r ≡ (a + b + 1) / 2 ⌝ }
+{
+    ((a as u32 + b as u32 + 1) / 2) as u16
+}
+
+// The rounded means of a row of the output and of the first w numbers of a line.
+fn row_mean(line: &[u16], w: usize, out: &mut [u16], at: usize)
+    requires { ⌜ (w ≤ length (now line)) × (at + w ≤ length (now out)) ⌝ }
+    ensures { λ _. ⌜ now (out .exit) ≡ fill (now (out .entry)) at w (meanOf (now (out .entry)) at (listed (now (line .entry)))) ⌝ }
+{
+    let mut c = 0;
+    while c < w {
+        let o = at + c;
+        out[o] = mean(out[o], line[c]);
+        c += 1;
+    }
+}
+
+// A row of vertical results, averaged with what stands in the output.
+pub fn row_down_mean(
+    p: Taps,
+    room: &[u16],
+    b: usize,
+    w: usize,
+    max: u16,
+    out: &mut [u16],
+    at: usize,
+)
+    requires { ⌜ IsTaps p ⌝ }
+    requires { ⌜ (p .filter < 4) × (w ≤ 64) × (b + w + 448 ≤ length (now room)) × (at + w ≤ length (now out)) ⌝ }
+    ensures { λ _. ⌜ now (out .exit) ≡ fill (now (out .entry)) at w
+        (meanOf (now (out .entry)) at (ran max (tap (p .filter) (p .phase)) (now (room .entry)) 64 b)) ⌝ }
+{
+    let mut line = [0u16; 64];
+    row_down(p, room, b, w, max, &mut line, 0);
+    row_mean(&line, w, out, at)
+}

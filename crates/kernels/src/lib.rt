@@ -1,0 +1,12 @@
+// The rows that block prediction is made of: the filters' taps, and rows of results over lists of samples. Only `samples` calls it.
+mod down;
+mod rows;
+mod taps;
+
+pub use down::row_down;
+pub use down::row_down_mean;
+pub use rows::held;
+pub use rows::row_across;
+pub use taps::Taps;
+pub use taps::subpel_filters;
+pub use taps::taps_at;

@@ -1,0 +1,6 @@
+pub mod Accepted
+pub mod Bands
+pub mod Blocks
+pub mod Bridge
+pub mod Outcomes
+pub mod Reached

@@ -1,0 +1,42 @@
+-- Internal: what the passes compute, on positions lifted by 3,200,000, which is 200,000 columns or rows. No definition that a caller reads
+-- cites this file; proofs/Bridge.antt joins it to those that do. Assumes nothing.
+use Prim.Native.Nat.{ℕ, _+_, _-_, _*_, _/_, _%_, min}
+use mathlib.Core.Path.{_≡_}
+use mathlib.Core.Bool.{true, _&&_}
+use mathlib.Core.List.{List}
+use lib.IntN.{ℤ, pos}
+use Rattle.base.specs.Number.{within}
+use Rattle.kernels.specs.Kernel.{ran, level, meanOf}
+use Rattle.samples.specs.Plane.{Lent, lent, plane, widthOf, heightOf, sized, fits}
+use Rattle.samples.specs.Call.{Ref, kind, starts}
+use Rattle.samples.specs.declared.block_inter_pred.BlockShape.{BlockShape}
+
+-- a plane lent in plain numbers
+abbrev pub view : ℕ → ℕ → ℕ → ℕ → List ℕ → List ℕ → Lent
+view w h stride k upper lower = lent (record { width = pos w; height = pos h; stride = stride; «upper_rows» = k }) upper lower
+
+-- the horizontal pass: row i is the lifted row y0 + i, held
+unfoldable pub acrossFrom : ℕ → (ℕ → ℕ → ℤ) → Lent → ℕ → ℕ → ℕ → ℕ → ℕ → ℕ
+acrossFrom max taps p start step y0 i c =
+    level max taps (plane p (min (y0 + i - 200003) (heightOf (p .geom) - 1))) (widthOf (p .geom) - 1) (start + step * c)
+
+-- the vertical pass over a room whose rows are 64 apart
+unfoldable pub downAt : ℕ → (ℕ → ℕ → ℤ) → List ℕ → ℕ → ℕ → ℕ → ℕ → ℕ
+downAt max taps room start step r = ran max (taps ((start + step * r) % 16)) room 64 (((start + step * r) / 16 - start / 16) * 64)
+
+-- both passes
+unfoldable pub blockAt : ℕ → (ℕ → ℕ → ℤ) → Lent → ℕ → ℕ → ℕ → ℕ → ℕ → ℕ → ℕ
+blockAt max taps p sx stepx sy stepy r c =
+    level max taps (λ (v : ℕ). level max taps (plane p v) (widthOf (p .geom) - 1) (sx + stepx * c)) (heightOf (p .geom) - 1) (sy + stepy * r)
+
+-- the same of a rectangle of the output, row by row
+unfoldable pub meanWith : List ℕ → ℕ → (ℕ → ℕ → ℕ) → ℕ → ℕ → ℕ
+meanWith out stride f r = meanOf out (r * stride) (f r)
+
+-- a block and a reference that passed their tests
+pub record Legal (b : BlockShape) (p : Ref) : Type 0 where
+  pub block : (within 1 64 (b .w) && within 1 64 (b .h)) ≡ true
+  pub filter : kind b ≡ true
+  pub plane : sized (p .lent .geom) ≡ true
+  pub from : starts (p .from) ≡ true
+  pub bands : fits (p .lent) ≡ true
