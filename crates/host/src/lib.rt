@@ -1,0 +1,2 @@
+// The C boundary: every public call under its own C name, and nothing else. include/knobspindle.h says the same in C.
+mod vectors_c;
