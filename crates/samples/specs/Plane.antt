@@ -1,8 +1,9 @@
 -- A plane lent in two bands: document 01, 'Lent tables'. Assumes nothing.
 use Prim.Native.Nat.{ℕ, _+_, _-_, _*_}
+use mathlib.Core.Path.{_≡_}
 use mathlib.Core.Bool.{Bool, true, _&&_, cond}
 use mathlib.Core.List.{List, [], _∷_}
-use lib.Dec.{leb, ltb}
+use lib.Dec.{leb, ltb, eqb}
 use lib.IntN.{ℤ, pos}
 use lib.ListN.{length, getD, take, drop}
 use Rattle.base.specs.Answer.{Row, row, answer, SIZE, START, SHORT}
@@ -61,3 +62,8 @@ rowOf p y =
     cond (ltb y (p .geom .«upper_rows»))
     (take (widthOf (p .geom)) (drop (y * p .geom .stride) (p .upper)))
     (take (widthOf (p .geom)) (drop ((y - p .geom .«upper_rows») * p .geom .stride) (p .lower)))
+
+-- what a row read gives: the number, and the row or, where it is refused, "an empty part of the upper band"
+pub record ReadOutcome (p : Lent) (y n : ℕ) (r : List ℕ) : Type 0 where
+  pub number : n ≡ answer (readRows p y)
+  pub row : r ≡ cond (eqb (answer (readRows p y)) 0) (rowOf p y) []

@@ -1,0 +1,139 @@
+-- What an accepted call says of its arguments, and the laws by which its number is computed. Assumes nothing.
+use mathlib.Core.Path.{_≡_, refl, sym}
+use mathlib.Core.Bool.{Bool, true, false, _&&_, _||_}
+use mathlib.Core.List.{List}
+use Prim.Native.Nat.{ℕ, _+_, _/_, _≤_}
+use borrow.Author.Tests.{leb-true, ne-eqb}
+use lib.Dec.{leb}
+use lib.IntN.{ℤ, pos, negsuc, natAbs}
+use lib.ListN.{length}
+use Rattle.base.specs.Answer.{unless}
+use Rattle.base.specs.Number as Number
+use Rattle.base.specs.Number.{within}
+use Rattle.base.specs.Paint.{paint}
+use Rattle.base.specs.Position.{toN}
+use Rattle.base.proofs.Answered.{unless-zero}
+use Rattle.base.proofs.Tests.{clash, and-both, within-both, between-abs}
+use Rattle.samples.specs.Plane.{widthOf, heightOf, holds, sized}
+use Rattle.samples.specs.Call.{Ref, Call, also, kind, starts, fromRef, value, numberOf, outFits, after}
+use Rattle.samples.specs.Kernel.{Legal}
+use Rattle.samples.specs.Sample.{blend}
+use Rattle.samples.specs.declared.block_inter_pred.BlockShape.{BlockShape}
+
+-- the last row's last test matters only where the first row passes
+pub table-same : (t1 t4 t5 t6 f a b : Bool) → (t1 ≡ true → a ≡ b)
+    → unless 1 t1 (unless 4 t4 (unless 5 t5 (unless 6 t6 (unless 7 (f && a) 0))))
+    ≡ unless 1 t1 (unless 4 t4 (unless 5 t5 (unless 6 t6 (unless 7 (f && b) 0))))
+unfolding unless
+table-same true t4 t5 t6 f a b e = rw (e refl)
+table-same false t4 t5 t6 f a b e = refl
+
+-- a test that fails where its first part passes fails in its second
+pub second-fails : (a b : Bool) → a ≡ true → (a && b) ≡ false → b ≡ false
+second-fails true b e f = f
+second-fails false b e f = clash e
+
+-- a depth that is none of the first two is the third
+pub third : (a b c : Bool) → (a || b || c) ≡ true → a ≡ false → b ≡ false → c ≡ true
+third true b c e p q = clash (sym p)
+third false true c e p q = clash (sym q)
+third false false c e p q = e
+
+-- a number in 1..m
+from-one : (m : ℕ) (z : ℤ) → Number.between (pos 1) (pos m) z ≡ true → (1 ≤ toN z) × (toN z ≤ m)
+unfolding Number.between
+from-one m (pos n) e = let p = and-both (leb 1 n) (leb n m) e in (leb-true 1 n (p .0), leb-true n m (p .1))
+from-one m (negsuc n) e = clash e
+
+-- what the tests of a block and a reference say
+pub record Facts (b : BlockShape) (p : Ref) : Type 0 where
+  pub w : (1 ≤ b .w) × (b .w ≤ 64)
+  pub h : (1 ≤ b .h) × (b .h ≤ 64)
+  pub filter : b .filter ≤ 3
+  pub width : 1 ≤ widthOf (p .lent .geom)
+  pub height : 1 ≤ heightOf (p .lent .geom)
+  pub left : natAbs (p .from .«start_x» .0) ≤ 3000000
+  pub top : natAbs (p .from .«start_y» .0) ≤ 3000000
+  pub across : toN (p .from .«step_x» .0) ≤ 32
+  pub down : toN (p .from .«step_y» .0) ≤ 32
+
+pub legal-says : (b : BlockShape) (p : Ref) → Legal b p → Facts b p
+unfolding kind sized starts
+legal-says b p l =
+    let block = and-both (within 1 64 (b .w)) (within 1 64 (b .h)) (l .block) in
+    let size = and-both (Number.between (pos 1) (pos 65536) (p .lent .geom .width)) (Number.between (pos 1) (pos 65536) (p .lent .geom .height)) (l .plane) in
+    let three = and-both _ _ (l .from) in
+    let two = and-both _ _ (three .0) in
+    let one = and-both _ _ (two .0) in
+    record {
+      w = within-both 1 64 (b .w) (block .0);
+      h = within-both 1 64 (b .h) (block .1);
+      filter = leb-true (b .filter) 3 (and-both _ _ (l .filter) .0);
+      width = from-one 65536 (p .lent .geom .width) (size .0) .0;
+      height = from-one 65536 (p .lent .geom .height) (size .1) .0;
+      left = between-abs 2999999 (p .from .«start_x» .0) (one .0);
+      top = between-abs 2999999 (p .from .«start_y» .0) (one .1);
+      across = from-one 32 (p .from .«step_x» .0) (two .1) .1;
+      down = from-one 32 (p .from .«step_y» .0) (three .1) .1;
+    }
+
+-- what an accepted call says, with an output of n numbers and a room of m
+pub record Taken (a : Call) (n m : ℕ) : Type 0 where
+  pub one : Legal (a .shape) (a .one)
+  pub two : a .shape .average ≡ true → Legal (a .shape) (a .two)
+  pub apart : a .shape .w ≤ a .stride
+  pub out : holds (a .shape .h) (a .stride) (a .shape .w) n ≡ true
+  pub room : 8576 ≤ m
+
+also-true : (average t : Bool) → also average t ≡ true → average ≡ true → t ≡ true
+also-true true t e q = e
+also-true false t e q = clash q
+
+pub accepted : (a : Call) (n m : ℕ) → numberOf a n m ≡ 0 → Taken a n m
+unfolding numberOf outFits
+accepted a n m e =
+    let r1 = unless-zero 0 _ _ e in
+    let r4 = unless-zero 3 _ _ (r1 .1) in
+    let r5 = unless-zero 4 _ _ (r4 .1) in
+    let r6 = unless-zero 5 _ _ (r5 .1) in
+    let r7 = unless-zero 6 _ _ (r6 .1) in
+    let size = and-both _ _ (r5 .0) in
+    let start = and-both _ _ (r6 .0) in
+    let fit = and-both _ _ (r7 .0) in
+    let bands = and-both _ _ (fit .0) in
+    let room = and-both _ _ (fit .1) in
+    let out = and-both _ _ (room .0) in
+    record {
+      one = record { block = r1 .0; filter = r4 .0; plane = size .0; from = start .0; bands = bands .0 };
+      two = λ q.
+          record {
+            block = r1 .0;
+            filter = r4 .0;
+            plane = also-true (a .shape .average) _ (size .1) q;
+            from = also-true (a .shape .average) _ (start .1) q;
+            bands = also-true (a .shape .average) _ (bands .1) q;
+          };
+      apart = within-both (a .shape .w) 131072 (a .stride) (out .0) .0;
+      out = out .1;
+      room = leb-true 8576 m (room .1);
+    }
+
+-- the output after a call, accepted or refused
+pub after-taken : (a : Call) (out : List ℕ) (m : ℕ) → numberOf a (length out) m ≡ 0
+    → after a out m ≡ paint out (a .stride) (a .shape .w) (a .shape .h) (value a)
+unfolding after
+after-taken a out m e = simp e
+
+pub after-refused : (a : Call) (out : List ℕ) (m : ℕ) → (numberOf a (length out) m ≡ 0 → ⊥) → after a out m ≡ out
+unfolding after
+after-refused a out m d = simp (ne-eqb _ 0 d)
+
+-- a sample of a call, averaged and not
+pub value-two : (a : Call) (r c : ℕ) → a .shape .average ≡ true
+    → (fromRef (a .shape) (a .one) r c + fromRef (a .shape) (a .two) r c + 1) / 2 ≡ value a r c
+unfolding value blend
+value-two a r c e = rw e
+
+pub value-one : (a : Call) (r c : ℕ) → a .shape .average ≡ false → fromRef (a .shape) (a .one) r c ≡ value a r c
+unfolding value blend
+value-one a r c e = rw e

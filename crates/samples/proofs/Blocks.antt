@@ -1,0 +1,103 @@
+-- The passes put together: a row of a plane, phase 0 down, and the vertical pass over what the horizontal one left. Assumes nothing.
+use mathlib.Core.Path.{_≡_, refl, sym, ap, _∙_}
+use mathlib.Core.List.{List}
+use Prim.Native.Nat.{ℕ, _+_, _-_, _*_, _/_, _%_, _<_, _≤_, min}
+use native.Mathlib.Nat.{mul-le-mul-left, mul-le-mul-right, suc-mul, zero-add, min-le-right, min-eq-left}
+use native.Mathlib.Omega.{arith}
+use lib.IntN.{ℤ}
+use lib.ListN.{length, getD}
+use Rattle.base.specs.Paint.{fill, paint}
+use Rattle.base.proofs.Painted.{fill-same, fill-at, paint-at, paint-else, paint-same, paint-over}
+use Rattle.samples.specs.Taps.{tap}
+use Rattle.samples.specs.Plane.{Lent, plane, rowOf, widthOf, heightOf}
+use Rattle.samples.specs.Kernel.{apart, ran, clipped, seat, level, listed, levels, acrossFrom, downAt, blockAt, meanOf, meanWith}
+use Rattle.samples.proofs.Bands.{row-at}
+use Rattle.samples.proofs.Filtered.{samples-same, filtered-whole, filtered-max}
+
+-- samples that agree up to the last one
+pub level-same : (max : ℕ) (taps : ℕ → ℕ → ℤ) (x y : ℕ → ℕ) (last q : ℕ) → ((u : ℕ) → u ≤ last → x u ≡ y u) → level max taps x last q ≡ level max taps y last q
+unfolding level seat
+level-same max taps x y last q e = samples-same max (taps (q % 16)) _ _ (λ t t8. e (seat last q t) (min-le-right _ _))
+
+-- a row of the plane as a list
+pub row-level : (max : ℕ) (taps : ℕ → ℕ → ℤ) (p : Lent) (v start step c : ℕ) → 0 < widthOf (p .geom)
+    → levels max taps (rowOf p v) (widthOf (p .geom) - 1) start step c ≡ level max taps (plane p v) (widthOf (p .geom) - 1) (start + step * c)
+unfolding levels
+row-level max taps p v start step c wide =
+    level-same max taps (listed (rowOf p v)) (plane p v) (widthOf (p .geom) - 1) (start + step * c) (λ u le. row-at p v u (omega arith))
+
+-- phase 0 down is the fourth row
+pub down-whole : (max filter : ℕ) (room : List ℕ) (b c : ℕ) → filter < 4 → clipped max room (b + 192) c ≡ ran max (tap filter 0) room 64 b c
+unfolding clipped ran apart
+down-whole max filter room b c f4 =
+    let e : b + 192 + c ≡ b + c + 64 * 3 = omega arith in
+    rw e (sym (filtered-whole max filter (apart room 64 (b + c)) f4))
+
+-- whole rows need no vertical pass: the horizontal results from the fourth row on
+pub whole-rows : (max filter : ℕ) (p : Lent) (sx stepx sy r c : ℕ) → filter < 4 → sy % 16 ≡ 0
+    → acrossFrom max (tap filter) p sx stepx (sy / 16 + 3) r c ≡ blockAt max (tap filter) p sx stepx sy 16 r c
+unfolding acrossFrom blockAt level seat
+whole-rows max filter p sx stepx sy r c f4 z =
+    let phase : (sy + 16 * r) % 16 ≡ 0 = omega arith in
+    let row : sy / 16 + 3 + r ≡ (sy + 16 * r) / 16 + 3 = omega arith in
+    rw (phase, row) (sym (filtered-whole max filter _ f4 ∙ min-eq-left (filtered-max max _ _)))
+
+-- the vertical pass over what the horizontal one left in the room
+module _ (max : ℕ) (taps : ℕ → ℕ → ℤ) (p : Lent) (sx stepx sy stepy w h : ℕ) (room : List ℕ) (w64 : w ≤ 64) (long : 8576 ≤ length room)
+    (few : (sy % 16 + stepy * (h - 1)) / 16 + 8 ≤ 134) where
+  rows : ℕ
+  rows = (sy % 16 + stepy * (h - 1)) / 16 + 8
+
+  left : List ℕ
+  left = paint room 64 w rows (acrossFrom max taps p sx stepx (sy / 16))
+
+  in-room : (r c t : ℕ) → r < h → c < w → t < 8
+      → apart left 64 (((sy + stepy * r) / 16 - sy / 16) * 64 + c) t
+      ≡ level max taps (plane p (seat (heightOf (p .geom) - 1) (sy + stepy * r) t)) (widthOf (p .geom) - 1) (sx + stepx * c)
+  unfolding left rows acrossFrom apart seat
+  in-room r c t rh cw t8 =
+      let far : stepy * r ≤ stepy * (h - 1) = mul-le-mul-left stepy (omega arith) in
+      let i : ℕ = (sy + stepy * r) / 16 - sy / 16 + t in
+      let place : ((sy + stepy * r) / 16 - sy / 16) * 64 + c + 64 * t ≡ i * 64 + c = omega arith in
+      let above : sy / 16 + i ≡ (sy + stepy * r) / 16 + t = omega arith in
+      rw place
+      (paint-at room 64 w rows (acrossFrom max taps p sx stepx (sy / 16)) w64 (omega arith) i c (omega arith) cw ∙ rw above)
+
+  pub both-passes : (r c : ℕ) → r < h → c < w
+      → downAt max taps (paint room 64 w ((sy % 16 + stepy * (h - 1)) / 16 + 8) (acrossFrom max taps p sx stepx (sy / 16))) sy stepy r c
+      ≡ blockAt max taps p sx stepx sy stepy r c
+  unfolding left rows downAt blockAt ran level
+  both-passes r c rh cw = samples-same max (taps ((sy + stepy * r) % 16)) _ _ (λ t t8. in-room r c t rh cw t8)
+
+-- rows painted above leave a row of the output as it was, so that means may be taken row by row
+pub mean-unpainted : (out : List ℕ) (stride w r : ℕ) (f : ℕ → ℕ → ℕ) (g : ℕ → ℕ) (m : List ℕ) → w ≤ stride
+    → fill m (r * stride) w (meanOf (paint out stride w r f) (r * stride) g) ≡ fill m (r * stride) w (meanOf out (r * stride) g)
+unfolding meanOf
+mean-unpainted out stride w r f g m ws =
+    fill-same m (r * stride) w _ _
+    (λ c cw.
+    let e : getD (paint out stride w r f) (r * stride + c) 0 ≡ getD out (r * stride + c) 0
+    = paint-else out stride w r f (r * stride + c)
+    (λ i k ir kw q. omega (arith, suc-mul i stride, mul-le-mul-right stride ir)) in
+    rw e)
+
+-- a row whose numbers are taken from a line that was filled
+pub mean-filled : (out line : List ℕ) (at w : ℕ) (f : ℕ → ℕ) (m : List ℕ) → w ≤ length line
+    → fill m at w (meanOf out at (listed (fill line 0 w f))) ≡ fill m at w (meanOf out at f)
+unfolding meanOf
+mean-filled out line at w f m long =
+    fill-same m at w _ _
+    (λ c cw.
+    let e : getD (fill line 0 w f) c 0 ≡ f c = rw zero-add at (fill-at line 0 w f (omega arith) c cw) in
+    rw e)
+
+-- means taken in place of a painted rectangle
+pub mean-painted : (out : List ℕ) (stride w h : ℕ) (f g : ℕ → ℕ → ℕ) → w ≤ stride → (h - 1) * stride + w ≤ length out
+    → paint (paint out stride w h f) stride w h (meanWith (paint out stride w h f) stride g)
+    ≡ paint out stride w h (λ (r c : ℕ). (f r c + g r c + 1) / 2)
+unfolding meanWith meanOf
+mean-painted out stride w h f g ws fit =
+    let m = paint out stride w h f in
+    paint-same m stride w h _ _
+    (λ r c rh cw. ap (λ (v : ℕ). (v + g r c + 1) / 2) (paint-at out stride w h f ws fit r c rh cw))
+    ∙ paint-over out stride w h f _ ws fit

@@ -1,0 +1,11 @@
+pub mod Accepted
+pub mod Bands
+pub mod Blocks
+pub mod Bridge
+pub mod Casts
+pub mod Filtered
+pub mod Loops
+pub mod Outcomes
+pub mod Reached
+pub mod Rows
+pub mod TapRules

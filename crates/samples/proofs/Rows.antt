@@ -1,0 +1,47 @@
+-- A row of results, however it is computed, is the definition's on lifted positions: one phase, phase 0, and over a line of held samples.
+-- Assumes nothing.
+use mathlib.Core.Path.{_≡_, refl, sym, ap, _∙_}
+use mathlib.Core.List.{List}
+use Prim.Native.Nat.{ℕ, _+_, _-_, _*_, _/_, _%_, _<_, _≤_, min}
+use native.Mathlib.Nat.{mul-le-mul-left}
+use native.Mathlib.Omega.{arith}
+use lib.IntN.{ℤ}
+use lib.ListN.{getD}
+use Rattle.samples.specs.Taps.{tap}
+use Rattle.samples.specs.Sample.{filtered}
+use Rattle.samples.specs.Kernel.{apart, ran, stepped, clipped, seat, level, levels, heldFrom}
+use Rattle.samples.proofs.Filtered.{filtered-same, filtered-whole}
+
+-- one phase, in steps of 16
+pub ran-stepped : (max : ℕ) (taps : ℕ → ℕ → ℤ) (l : List ℕ) (d phase c : ℕ) → phase < 16 → ran max (taps phase) l 1 d c ≡ stepped max taps l d phase 16 c
+unfolding ran stepped
+ran-stepped max taps l d phase c p16 =
+    let e : (phase + 16 * c) % 16 ≡ phase = omega arith in
+    let f : (phase + 16 * c) / 16 ≡ c = omega arith in
+    rw (e, f)
+
+-- phase 0, in steps of 16
+pub clipped-stepped : (max filter : ℕ) (l : List ℕ) (d c : ℕ) → filter < 4 → clipped max l (d + 3) c ≡ stepped max (tap filter) l d 0 16 c
+unfolding clipped stepped apart
+clipped-stepped max filter l d c f4 =
+    let e : (0 + 16 * c) % 16 ≡ 0 = omega arith in
+    let f : (0 + 16 * c) / 16 ≡ c = omega arith in
+    let g : d + 3 + c ≡ d + c + 1 * 3 = omega arith in
+    rw (e, f, g) (sym (filtered-whole max filter (apart l 1 (d + c)) f4))
+
+-- a line that has the held samples from the start's column on
+pub line-is : (max : ℕ) (taps : ℕ → ℕ → ℤ) (row line : List ℕ) (last start step w d : ℕ)
+    → ((j : ℕ) → j < (start % 16 + step * (w - 1)) / 16 + 8 → getD line (d + j) 0 ≡ heldFrom row last (start / 16) j)
+    → (c : ℕ) → c < w → stepped max taps line d (start % 16) step c ≡ levels max taps row last start step c
+unfolding stepped levels level apart heldFrom seat
+line-is max taps row line last start step w d same c cw =
+    let far : step * c ≤ step * (w - 1) = mul-le-mul-left step (omega arith) in
+    let phase : (start % 16 + step * c) % 16 ≡ (start + step * c) % 16 = omega arith in
+    let past : ℕ = (start % 16 + step * c) / 16 in
+    filtered-same max _ _ _ _
+    (λ t t8.
+    let e : d + past + 1 * t ≡ d + (past + t) = omega arith in
+    let f : start / 16 + (past + t) ≡ (start + step * c) / 16 + t = omega arith in (
+      ap (λ (m : ℕ). taps m t) phase,
+      ap (λ (k : ℕ). getD line k 0) e ∙ same (past + t) (omega arith) ∙ ap (λ (k : ℕ). getD row (min (k - 200003) last) 0) f,
+    ))

@@ -1,0 +1,113 @@
+-- `samples::block_inter_pred::predict_one` meets its contract: lifted positions are the signed ones. Assumes nothing.
+use mathlib.Core.Path.{ap, _∙_}
+use native.Mathlib.Omega.{arith}
+use borrow.Author.Needs.{needs}
+use Rattle.base.specs.Position.{toN}
+use Rattle.base.proofs.Lift.{Start}
+use Rattle.base.proofs.Painted.{paint-same}
+use Rattle.samples.specs.Sample.{across}
+use Rattle.samples.specs.Plane.{lent, fits}
+use Rattle.samples.specs.Call.{ref}
+use Rattle.samples.proofs.Accepted.{Facts, legal-says}
+use Rattle.samples.proofs.Bridge.{bridge}
+use Rattle.samples.proofs.Casts.{read-back}
+use Rattle.samples.proofs.block_inter_pred.predict_one.Statement.{statement}
+use Rattle.samples.proofs.block_inter_pred.predict_one.Tie as tie
+
+-- the arguments are known to be in range where a width has been read
+abbrev entry : tie.After-natural → tie.Start
+entry c = let a = c .before .before .before in a .before .before .before
+
+facts : (s : tie.Start) → let a = s .args in Facts (a .shape) (ref (lent (a .geom) (a .upper .now) (a .lower .now)) (a .from))
+facts s = legal-says _ _ (s .pre .0)
+
+natural-requires : tie.Need-natural-requires
+natural-requires c κs = search needs
+
+natural-requires-2 : tie.Need-natural-requires-2
+natural-requires-2 c κs = search needs
+
+lift-requires : tie.Need-lift-requires
+lift-requires c κs = facts (entry (c .before .before)) .left
+
+natural-requires-3 : tie.Need-natural-requires-3
+natural-requires-3 c κs = search needs
+
+lift-requires-2 : tie.Need-lift-requires-2
+lift-requires-2 c κs = let n = c .before .before .before in facts (entry (n .before .before)) .top
+
+natural-requires-4 : tie.Need-natural-requires-4
+natural-requires-4 c κs = search needs
+
+top-requires : tie.Need-top-requires
+top-requires c κs = search needs
+
+block-requires : tie.Need-block-requires
+unfolding fits
+block-requires c κs =
+    let t = c .before .before in
+    let n4 = t .before in
+    let l2 = n4 .before .before in
+    let n3 = l2 .before in
+    let l1 = n3 .before .before in
+    let n2 = l1 .before in
+    let n1 = n2 .before .before in
+    let s = entry n1 in
+    let a = s .args in
+    let g = n1 .before .struct-told .given in
+    let z = n3 .before .struct-told3 .given in
+    let ew = n1 .natural .ensures ∙ ap toN (read-back (a .geom .width) (g .0 .1)) in
+    let eh = n2 .natural2 .ensures ∙ ap toN (read-back (a .geom .height) (g .1 .0 .1)) in
+    let ex = n3 .natural3 .ensures ∙ ap toN (read-back (a .from .«step_x» .0) (z .1 .1 .0 .1 .1 .0 .1)) in
+    let ey = n4 .natural4 .ensures ∙ ap toN (read-back (a .from .«step_y» .0) (z .1 .1 .1 .0 .1 .1 .0 .1)) in
+    let f = facts s in
+    let lx = l1 .lift .ensures .1 in
+    let ly = l2 .lift2 .ensures .1 in
+    rw (ew, eh)
+    (omega (arith, f .filter, f .w, f .h, f .across, f .down, lx, ly, ex, ey), (omega (arith, f .width, f .height, s .pre .1), (s .pre .0 .bands, s .pre .1 .0)))
+
+same-length : tie.Need-same-length
+same-length c = search needs
+
+same-length-2 : tie.Need-same-length-2
+same-length-2 c = search needs
+
+returns : tie.Need-returns
+returns c =
+    let b1 = c .before .before .before in
+    let b = b1 .before in
+    let t = b .before .before .before in
+    let n4 = t .before in
+    let l2 = n4 .before .before in
+    let n3 = l2 .before in
+    let l1 = n3 .before .before in
+    let n2 = l1 .before in
+    let n1 = n2 .before .before in
+    let s = entry n1 in
+    let a = s .args in
+    let g = n1 .before .struct-told .given in
+    let z = n3 .before .struct-told3 .given in
+    let ew = n1 .natural .ensures ∙ ap toN (read-back (a .geom .width) (g .0 .1)) in
+    let eh = n2 .natural2 .ensures ∙ ap toN (read-back (a .geom .height) (g .1 .0 .1)) in
+    let ex = n3 .natural3 .ensures ∙ ap toN (read-back (a .from .«step_x» .0) (z .1 .1 .0 .1 .1 .0 .1)) in
+    let ey = n4 .natural4 .ensures ∙ ap toN (read-back (a .from .«step_y» .0) (z .1 .1 .1 .0 .1 .1 .0 .1)) in
+    rw (ew, eh, ex, ey) at (b .block .ensures)
+    ∙ paint-same _ _ _ _ _ _
+    (λ r k rh kw.
+    bridge (a .shape) (a .geom) (a .from) (a .upper .now) (a .lower .now) _ _ _ r k (t .top .ensures) (l1 .lift .ensures .0) (l2 .lift2 .ensures .0))
+
+pub predict-one-spec : {M : Type 1} → statement M
+predict-one-spec =
+    tie.close
+    (tie.spec
+    natural-requires
+    natural-requires-2
+    lift-requires
+    natural-requires-3
+    lift-requires-2
+    natural-requires-4
+    top-requires
+    block-requires
+    same-length
+    same-length-2
+    returns)

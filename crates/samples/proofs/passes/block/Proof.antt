@@ -1,0 +1,131 @@
+-- `samples::passes::block` meets its contract: the two passes, or the one that is needed. Assumes nothing.
+use mathlib.Core.Path.{_≡_, refl, ap, _∙_}
+use Prim.Native.Nat.{_-_, _*_, _%_, _≤_}
+use native.Mathlib.Nat.{mul-le-mul}
+use native.Mathlib.Omega.{arith}
+use borrow.Author.Tests.{eqb-true}
+use borrow.Author.Needs.{needs}
+use lib.ListN.{length}
+use Rattle.base.proofs.Lift.{Start}
+use Rattle.base.proofs.Painted.{length-paint, paint-same}
+use Rattle.base.proofs.Tests.{and-both}
+use Rattle.samples.specs.Taps.{filters, tap, regular, smooth, sharp, bilinear}
+use Rattle.samples.specs.Plane.{Lent}
+use Rattle.samples.specs.Kernel.{view}
+use Rattle.samples.proofs.Bands.{holds-long}
+use Rattle.samples.proofs.Blocks.{whole-rows, both-passes}
+use Rattle.samples.proofs.passes.block.Statement.{statement}
+use Rattle.samples.proofs.passes.block.Tie as tie
+
+abbrev entry : tie.After-taps-at → tie.Start
+entry t = let a = t .before .before .before in a .before .before .before
+
+far : (s : tie.Start) → s .args .stepy * (s .args .h - 1) ≤ 32 * 63
+far s = mul-le-mul {n₂ = 32} {m₂ = 63} (omega (arith, s .pre .0)) (omega (arith, s .pre .0))
+
+abbrev plane : tie.Start → Lent
+plane s = let a = s .args in view (a .pw) (a .ph) (a .stride) (a .k) (a .upper .now) (a .lower .now)
+
+taps-at-requires : tie.Need-taps-at-requires
+unfolding filters regular smooth sharp bilinear
+taps-at-requires c κs = let a = c .before .before .before in let s = a .before .before in (refl, omega (arith, s .pre .0))
+
+add-pass-across : tie.Need-add-pass-across
+add-pass-across c = search needs
+
+pass-across-requires : tie.Need-pass-across-requires
+unfolding filters regular smooth sharp bilinear
+pass-across-requires c κs =
+    let t = c .before .before .before in
+    let s = entry t in
+    let e = t .taps-at .ensures in
+    (refl, (e .0, (omega (arith, e .1, e .2, s .pre .0), (omega (arith, s .pre .0, s .pre .1 .0, far s), (s .pre .1 .1 .0, s .pre .1 .1 .1)))))
+
+same-length : tie.Need-same-length
+same-length c = search needs
+
+returns : tie.Need-returns
+returns c =
+    let r = c .before .before in
+    let d = r .before .before .before in
+    let t = d .before in
+    let s = entry t in
+    let a = s .args in
+    let e = t .taps-at .ensures in
+    let b = and-both _ _ (d .if1 .taken) in
+    let z : a .sy % 16 ≡ 0 = eqb-true _ _ (b .0) in
+    let q : a .stepy ≡ 16 = eqb-true _ _ (b .1) in
+    rw q
+    (rw (e .1) at (r .pass-across .ensures)
+    ∙ paint-same _ _ _ _ _ _ (λ i k ih kw. whole-rows (a .max) (a .filter) (plane s) (a .sx) (a .stepx) (a .sy) i k (s .pre .0 .0) z))
+
+sub-n : tie.Need-sub-n
+sub-n c = search needs
+
+mul-n : tie.Need-mul-n
+mul-n c = let s = entry (c .before) in omega (arith, far s)
+
+add-n : tie.Need-add-n
+add-n c = let s = entry (c .before) in omega (arith, far s)
+
+add-n-2 : tie.Need-add-n-2
+add-n-2 c = let s = entry (c .before) in omega (arith, far s)
+
+pass-across-requires-2 : tie.Need-pass-across-requires-2
+unfolding filters regular smooth sharp bilinear
+pass-across-requires-2 c κs =
+    let t = c .before .before .before in
+    let s = entry t in
+    let e = t .taps-at .ensures in
+    (refl, (e .0, (omega (arith, e .1, e .2, s .pre .0), (omega (arith, s .pre .0, s .pre .1 .0, far s), (s .pre .1 .1 .0, holds-long _ _ _ _ (omega (arith, s .pre .0, s .pre .1 .0, far s)))))))
+
+pass-down-requires : tie.Need-pass-down-requires
+unfolding filters regular smooth sharp bilinear
+pass-down-requires c κs =
+    let x1 = c .before .before .before in
+    let x = x1 .before .before in
+    let t1 = x .before .before .before in
+    let t = t1 .before in
+    let s = entry t in
+    let long = ap length (x .pass-across2 .ensures) ∙ length-paint _ _ _ _ _ in
+    (refl, (omega (arith, s .pre .0, s .pre .1 .0, long), s .pre .1 .1 .1))
+
+same-length-2 : tie.Need-same-length-2
+same-length-2 c = search needs
+
+same-length-3 : tie.Need-same-length-3
+same-length-3 c = search needs
+
+returns-2 : tie.Need-returns-2
+returns-2 c =
+    let d = c .before .before in
+    let x1 = d .before .before .before in
+    let x = x1 .before .before .before in
+    let t1 = x .before .before .before in
+    let t = t1 .before in
+    let s = entry t in
+    let a = s .args in
+    let e = t .taps-at .ensures in
+    rw (x .pass-across2 .ensures, e .1) at (d .pass-down .ensures)
+    ∙ paint-same _ _ _ _ _ _
+    (both-passes (a .max) (tap (a .filter)) (plane s) (a .sx) (a .stepx) (a .sy) (a .stepy) (a .w) (a .h) (a .room .now)
+    (omega (arith, s .pre .0)) (s .pre .1 .0 .2) (omega (arith, s .pre .0, far s)))
+
+pub block-spec : {M : Type 1} → statement M
+block-spec =
+    tie.close
+    (tie.spec
+    taps-at-requires
+    add-pass-across
+    pass-across-requires
+    same-length
+    returns
+    sub-n
+    mul-n
+    add-n
+    add-n-2
+    pass-across-requires-2
+    pass-down-requires
+    same-length-2
+    same-length-3
+    returns-2)

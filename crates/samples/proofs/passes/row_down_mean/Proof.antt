@@ -1,0 +1,44 @@
+-- `samples::passes::row_down_mean` meets its contract: the row by way of a line. Assumes nothing.
+use mathlib.Core.Path.{_∙_}
+use native.Mathlib.Omega.{arith}
+use borrow.Author.Needs.{needs}
+use Rattle.samples.proofs.Blocks.{mean-filled}
+use Rattle.samples.proofs.passes.row_down_mean.Statement.{statement}
+use Rattle.samples.proofs.passes.row_down_mean.Tie as tie
+
+slice-aggregate-row-down : tie.Need-slice-aggregate-row-down
+slice-aggregate-row-down c = search needs
+
+row-down-requires : tie.Need-row-down-requires
+row-down-requires c κs = search needs
+
+slice-aggregate-row-mean : tie.Need-slice-aggregate-row-mean
+slice-aggregate-row-mean c = search needs
+
+row-mean-requires : tie.Need-row-mean-requires
+row-mean-requires c κs = search needs
+
+same-length : tie.Need-same-length
+same-length c = search needs
+
+returns : tie.Need-returns
+returns c =
+    let r = c .before .before in
+    let d1 = r .before .before .before in
+    let d = d1 .before in
+    let s1 = d .before .before .before in
+    let s = s1 .before in
+    let a = s .args in
+    rw (d .row-down .ensures) at (r .row-mean .ensures)
+    ∙ mean-filled (a .out .now) _ (a .at) (a .w) _ (a .out .now) (omega (arith, s .pre))
+
+pub row-down-mean-spec : {M : Type 1} → statement M
+row-down-mean-spec =
+    tie.close
+    (tie.spec
+    slice-aggregate-row-down
+    row-down-requires
+    slice-aggregate-row-mean
+    row-mean-requires
+    same-length
+    returns)

@@ -1,0 +1,56 @@
+-- What of a plane a block can read, two lendings of one plane, and a rectangle cut out of a block. Assumes nothing.
+use Prim.Native.Nat.{ℕ, _-_, _<_, _≤_}
+use mathlib.Core.Path.{_≡_}
+use mathlib.Core.Bool.{true}
+use lib.IntN.{ℤ, pos, _+ℤ_, _-ℤ_}
+use Rattle.base.specs.Position.{toN, floor16, hold, along}
+use Rattle.samples.specs.Plane.{Lent, plane, widthOf, heightOf}
+use Rattle.samples.specs.Call.{Ref, Call}
+use Rattle.samples.specs.declared.block_inter_pred.Stepping.{Stepping}
+
+-- the first column, or row, that a block can read: floor(start/16) - 3, held
+unfoldable pub low : ℕ → ℤ → ℕ
+low last start = hold last (floor16 start -ℤ pos 3)
+
+-- the last one, of n positions: floor((start + step x (n - 1))/16) + 4, held
+unfoldable pub high : ℕ → ℤ → ℕ → ℕ → ℕ
+high last start step n = hold last (floor16 (along start step (n - 1)) +ℤ pos 4)
+
+-- two planes of one size agree on the rectangle that w by h positions can read
+pub record Agree (s : Stepping) (w h : ℕ) (one two : Lent) : Type 0 where
+  pub width : widthOf (one .geom) ≡ widthOf (two .geom)
+  pub height : heightOf (one .geom) ≡ heightOf (two .geom)
+  pub samples : (v u : ℕ)
+      → low (heightOf (one .geom) - 1) (s .«start_y» .0) ≤ v
+      → v ≤ high (heightOf (one .geom) - 1) (s .«start_y» .0) (toN (s .«step_y» .0)) h
+      → low (widthOf (one .geom) - 1) (s .«start_x» .0) ≤ u
+      → u ≤ high (widthOf (one .geom) - 1) (s .«start_x» .0) (toN (s .«step_x» .0)) w
+      → plane one v u ≡ plane two v u
+
+-- one plane, however its rows are parted into bands
+pub record SamePlane (one two : Lent) : Type 0 where
+  pub width : widthOf (one .geom) ≡ widthOf (two .geom)
+  pub height : heightOf (one .geom) ≡ heightOf (two .geom)
+  pub samples : (v u : ℕ) → v < heightOf (one .geom) → u < widthOf (one .geom) → plane one v u ≡ plane two v u
+
+-- t starts r0 rows and c0 columns on in the block that s starts
+pub record Moved (s t : Stepping) (r0 c0 : ℕ) : Type 0 where
+  pub x : t .«start_x» .0 ≡ along (s .«start_x» .0) (toN (s .«step_x» .0)) c0
+  pub y : t .«start_y» .0 ≡ along (s .«start_y» .0) (toN (s .«step_y» .0)) r0
+  pub across : toN (t .«step_x» .0) ≡ toN (s .«step_x» .0)
+  pub down : toN (t .«step_y» .0) ≡ toN (s .«step_y» .0)
+
+-- p is a's reference for a rectangle, in bands of its own
+pub record Piece (a p : Ref) (r0 c0 : ℕ) : Type 0 where
+  pub plane : SamePlane (p .lent) (a .lent)
+  pub wide : 0 < widthOf (p .lent .geom)
+  pub high : 0 < heightOf (p .lent .geom)
+  pub from : Moved (a .from) (p .from) r0 c0
+
+-- p is the call of a rectangle of a's block, which starts r0 rows and c0 columns on: "anything of list 1 only when averaging"
+pub record Rectangle (a p : Call) (r0 c0 : ℕ) : Type 0 where
+  pub filter : p .shape .filter ≡ a .shape .filter
+  pub depth : p .shape .depth ≡ a .shape .depth
+  pub average : p .shape .average ≡ a .shape .average
+  pub one : Piece (a .one) (p .one) r0 c0
+  pub two : a .shape .average ≡ true → Piece (a .two) (p .two) r0 c0
