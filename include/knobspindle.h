@@ -71,6 +71,29 @@ typedef struct {
     int32_t start_x, start_y, step_x, step_y;
 } knobspindle_scaled_mv;
 
+/* A block: its size in samples (1..64 each), the filter (0 regular, 1 smooth, 2 sharp, 3 bilinear), the bit depth (8, 10 or 12), and
+ * whether the predictions from two references are averaged. */
+typedef struct {
+    size_t w, h, filter;
+    uint32_t depth;
+    bool average;
+} knobspindle_block_shape;
+
+/* A reference plane, lent in two bands with one stride: the upper one holds rows 0..upper_rows-1, the lower the rest. A band of k rows
+ * holds (k - 1) x stride + width samples or more, or none if k is 0. A plane in one piece: upper_rows = height, and NULL, 0 below. */
+typedef struct {
+    int32_t width, height;
+    size_t stride, upper_rows;
+} knobspindle_plane_geom;
+
+/* Where a block starts in a reference's plane and how it steps, in sixteenths of a sample: what knobspindle_scale_mv gives. */
+typedef struct {
+    int32_t start_x, start_y, step_x, step_y;
+} knobspindle_stepping;
+
+/* Numbers of working room that knobspindle_block_inter_predict asks for. */
+#define KNOBSPINDLE_ROOM 8576
+
 /* The vector that a plane (0 luma, 1 and 2 chroma) takes from list 0, or from list 1 where second is true. size is the block size 0..12,
  * block the sub-block 0..3. Answers 1 and 9 (components -32767..32767, of both lists). */
 knobspindle_selected_mv knobspindle_select_mv(knobspindle_block_mvs of, bool second, size_t plane, uint8_t size, size_t block,
@@ -82,6 +105,16 @@ knobspindle_clamped_mv knobspindle_clamp_mv(knobspindle_block_grid grid, knobspi
 
 /* Where a clamped vector leads from sample (x, y) of the plane, and the steps. Answers 1, 5, 6 and 9 (components -65534..65534). */
 knobspindle_scaled_mv knobspindle_scale_mv(knobspindle_scale_geom geom, size_t plane, int32_t x, int32_t y, knobspindle_plane_mv mv);
+
+/* Predicts shape.w x shape.h samples from one reference or, where shape.average is true, from two, into out: row r from out[r x stride] on.
+ * Nothing of the second reference is looked at without averaging; zeros and NULL, 0 do. Lengths count numbers of 16 bits. out and room
+ * overlap neither each other nor a band. What room holds before never matters, and after an accepted call it is anything.
+ * Answers 1, 4, 5, 6 and 7. */
+uint32_t knobspindle_block_inter_predict(knobspindle_block_shape shape, knobspindle_plane_geom geom, knobspindle_stepping from,
+                                         const uint16_t *upper, size_t upper_len, const uint16_t *lower, size_t lower_len,
+                                         knobspindle_plane_geom geom2, knobspindle_stepping from2, const uint16_t *upper2,
+                                         size_t upper2_len, const uint16_t *lower2, size_t lower2_len, uint16_t *room, size_t room_len,
+                                         uint16_t *out, size_t out_len, size_t stride);
 
 #ifdef __cplusplus
 }

@@ -72,11 +72,47 @@ static void scale_mv(void)
     check("scale, reference too large: answer", r.answer, KNOBSPINDLE_SIZE);
 }
 
+static void block_inter_predict(void)
+{
+    /* document 01: bilinear, half a sample on, is the rounded mean; held at the right edge. Rows 0 and 1 above, row 2 below. */
+    static const uint16_t upper[8] = {10, 20, 30, 99, 40, 50, 60, 99}, lower[3] = {70, 81, 255};
+    static const uint16_t other[9] = {0, 0, 0, 0, 0, 0, 0, 0, 0};
+    static uint16_t room[KNOBSPINDLE_ROOM];
+    uint16_t out[10] = {1, 2, 3, 4, 5, 6, 7, 8, 9, 10};
+    knobspindle_block_shape shape = {.w = 3, .h = 2, .filter = 3, .depth = 8, .average = false};
+    knobspindle_plane_geom geom = {.width = 3, .height = 3, .stride = 4, .upper_rows = 2}, none = {0, 0, 0, 0};
+    knobspindle_stepping from = {.start_x = 8, .start_y = 16, .step_x = 16, .step_y = 16}, nowhere = {0, 0, 0, 0};
+    uint32_t answer = knobspindle_block_inter_predict(shape, geom, from, upper, 8, lower, 3, none, nowhere, NULL, 0, NULL, 0, room,
+                                                      KNOBSPINDLE_ROOM, out, 10, 5);
+    static const uint16_t want[10] = {45, 55, 60, 4, 5, 76, 168, 255, 9, 10};
+    check("block: answer", answer, KNOBSPINDLE_ACCEPTED);
+    for (int i = 0; i < 10; i++)
+        check("block: sample", out[i], want[i]);
+    /* averaged with a plane of zeros, one row of it above: (45 + 0 + 1) / 2 */
+    shape.average = true;
+    knobspindle_plane_geom geom2 = {.width = 3, .height = 3, .stride = 3, .upper_rows = 1};
+    answer = knobspindle_block_inter_predict(shape, geom, from, upper, 8, lower, 3, geom2, from, other, 3, other + 3, 6, room,
+                                             KNOBSPINDLE_ROOM, out, 10, 5);
+    check("block, averaged: answer", answer, KNOBSPINDLE_ACCEPTED);
+    check("block, averaged: first", out[0], 23);
+    check("block, averaged: last", out[7], 128);
+    check("block, averaged: between", out[3], 4);
+    answer = knobspindle_block_inter_predict(shape, geom, from, upper, 8, lower, 2, geom2, from, other, 3, other + 3, 6, room,
+                                             KNOBSPINDLE_ROOM, out, 10, 5);
+    check("block, lower band short: answer", answer, KNOBSPINDLE_SHORT);
+    check("block, lower band short: first", out[0], 23);
+    shape.depth = 9;
+    answer = knobspindle_block_inter_predict(shape, geom, from, upper, 8, lower, 2, geom2, from, other, 3, other + 3, 6, room,
+                                             KNOBSPINDLE_ROOM, out, 10, 5);
+    check("block, depth 9: answer", answer, KNOBSPINDLE_FILTER);
+}
+
 int main(void)
 {
     select_mv();
     clamp_mv();
     scale_mv();
+    block_inter_predict();
     printf("host: %d checks, %d failed\n", checks, failed);
     return failed != 0;
 }
