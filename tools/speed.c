@@ -209,8 +209,9 @@ static void one_case(const char *group, const char *name, void (*ours)(void), vo
         return;
     }
     if (wanted >= 0) {
+        void (*run)(void) = strcmp(wanted_side, "ours") ? rust : ours;
         for (int i = 0; n == wanted && i < reps; i++)
-            (strcmp(wanted_side, "ours") ? rust : ours)();
+            run();
         return;
     }
     fill_outputs();
