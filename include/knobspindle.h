@@ -91,6 +91,12 @@ typedef struct {
     int32_t start_x, start_y, step_x, step_y;
 } knobspindle_stepping;
 
+/* Where a row of a plane stands: in the upper band (0) or the lower (1), from which sample on, and how many samples it has. */
+typedef struct {
+    uint32_t answer, band;
+    size_t first, samples;
+} knobspindle_row_place;
+
 /* Numbers of working room that knobspindle_block_inter_predict asks for. */
 #define KNOBSPINDLE_ROOM 8576
 
@@ -105,6 +111,10 @@ knobspindle_clamped_mv knobspindle_clamp_mv(knobspindle_block_grid grid, knobspi
 
 /* Where a clamped vector leads from sample (x, y) of the plane, and the steps. Answers 1, 5, 6 and 9 (components -65534..65534). */
 knobspindle_scaled_mv knobspindle_scale_mv(knobspindle_scale_geom geom, size_t plane, int32_t x, int32_t y, knobspindle_plane_mv mv);
+
+/* Where row y of a plane in two bands stands. Lengths count samples. Answers 5, 6 and 7. */
+knobspindle_row_place knobspindle_row_read(const uint16_t *upper, size_t upper_len, const uint16_t *lower, size_t lower_len,
+                                           knobspindle_plane_geom geom, size_t y);
 
 /* Predicts shape.w x shape.h samples from one reference or, where shape.average is true, from two, into out: row r from out[r x stride] on.
  * Nothing of the second reference is looked at without averaging; zeros and NULL, 0 do. Lengths count numbers of 16 bits. out and room

@@ -72,6 +72,28 @@ static void scale_mv(void)
     check("scale, reference too large: answer", r.answer, KNOBSPINDLE_SIZE);
 }
 
+static void row_read(void)
+{
+    static const uint16_t upper[8], lower[7];
+    knobspindle_plane_geom geom = {.width = 3, .height = 4, .stride = 4, .upper_rows = 2};
+    knobspindle_row_place r = knobspindle_row_read(upper, 8, lower, 7, geom, 1);
+    check("row read, above: answer", r.answer, KNOBSPINDLE_ACCEPTED);
+    check("row read, above: band", r.band, 0);
+    check("row read, above: first", r.first, 4);
+    check("row read, above: samples", r.samples, 3);
+    r = knobspindle_row_read(upper, 8, lower, 7, geom, 3);
+    check("row read, below: band", r.band, 1);
+    check("row read, below: first", r.first, 4);
+    r = knobspindle_row_read(upper, 8, lower, 6, geom, 3);
+    check("row read, lower band short: answer", r.answer, KNOBSPINDLE_SHORT);
+    check("row read, lower band short: samples", r.samples, 0);
+    r = knobspindle_row_read(upper, 8, lower, 7, geom, 4);
+    check("row read, row 4 of 4: answer", r.answer, KNOBSPINDLE_START);
+    geom.height = -1;
+    r = knobspindle_row_read(upper, 8, lower, 7, geom, 0);
+    check("row read, height -1: answer", r.answer, KNOBSPINDLE_SIZE);
+}
+
 static void block_inter_predict(void)
 {
     /* document 01: bilinear, half a sample on, is the rounded mean; held at the right edge. Rows 0 and 1 above, row 2 below. */
@@ -112,6 +134,7 @@ int main(void)
     select_mv();
     clamp_mv();
     scale_mv();
+    row_read();
     block_inter_predict();
     printf("host: %d checks, %d failed\n", checks, failed);
     return failed != 0;
