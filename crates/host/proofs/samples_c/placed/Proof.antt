@@ -1,5 +1,5 @@
 -- `placed` meets its contract: the products are small. Assumes nothing.
-use Prim.Native.Nat.{_-_, _*_, _≤_}
+use Prim.Native.Nat.{_-_, _≤_}
 use native.Mathlib.Nat.{mul-le-mul}
 use native.Mathlib.Omega.{arith}
 use borrow.Author.Tests.{lt-ltb, le-ltb}
@@ -10,8 +10,7 @@ use Rattle.host.proofs.samples_c.placed.Tie as tie
 mul-t6 : tie.Need-mul-t6
 mul-t6 c =
     let s = c .before in
-    let b : s .args .y * s .args .stride ≤ 2147483648 * 131072 = mul-le-mul {n₂ = 2147483648} {m₂ = 131072} (s .pre .0) (s .pre .1) in
-    omega (arith, b)
+    omega (arith, mul-le-mul {n₂ = 2147483648} {m₂ = 131072} (s .pre .0) (s .pre .1))
 
 returns : tie.Need-returns
 unfolding placed
@@ -20,8 +19,8 @@ returns c = simp (lt-ltb (c .before .args .y) (c .before .args .k) (omega arith)
 mul-t8 : tie.Need-mul-t8
 mul-t8 c =
     let s = c .before in
-    let b : (s .args .y - s .args .k) * s .args .stride ≤ 2147483648 * 131072 = mul-le-mul {n₂ = 2147483648} {m₂ = 131072} (omega (arith, s .pre)) (s .pre .1) in
-    omega (arith, b)
+    let below : s .args .y - s .args .k ≤ 2147483648 = omega (arith, s .pre) in
+    omega (arith, mul-le-mul {n₂ = 2147483648} {m₂ = 131072} below (s .pre .1))
 
 returns-2 : tie.Need-returns-2
 unfolding placed
