@@ -4,18 +4,22 @@ ghost use mathlib.Core.Path.{_≡_};
 ghost use Rattle.base.specs.Vector as Vector;
 
 // Eighths of a luma sample: what candidate vectors count.
+#[repr(C)]
 pub struct Eighth(pub i32);
 
 // Sixteenths of a plane sample: what clamped vectors, starts and steps count.
+#[repr(C)]
 pub struct Sixteenth(pub i32);
 
 // A candidate, or a block's vector.
+#[repr(C)]
 pub struct Mv {
     pub row: Eighth,
     pub col: Eighth,
 }
 
 // A clamped vector.
+#[repr(C)]
 pub struct PlaneMv {
     pub row: Sixteenth,
     pub col: Sixteenth,

@@ -31,6 +31,7 @@ use base::unless;
 use base::within;
 
 // The block: its size in samples, which filter, the bit depth, and whether two references are averaged.
+#[repr(C)]
 pub struct BlockShape {
     pub w: usize,
     pub h: usize,
@@ -40,6 +41,7 @@ pub struct BlockShape {
 }
 
 // Where a block starts in a reference's plane and how it steps from sample to sample.
+#[repr(C)]
 pub struct Stepping {
     pub start_x: Sixteenth,
     pub start_y: Sixteenth,

@@ -18,6 +18,7 @@ use base::unless;
 use base::within;
 
 // Its size in samples, the distance between rows, and how many rows the upper band has; the lower one has the rest.
+#[repr(C)]
 pub struct PlaneGeom {
     pub width: i32,
     pub height: i32,

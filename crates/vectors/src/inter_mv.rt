@@ -16,6 +16,7 @@ use base::Sixteenth;
 
 // ---- selection, 8.5.2.1
 
+#[repr(C)]
 pub struct SelectedMv {
     pub answer: u32,
     pub mv: Mv,
@@ -199,6 +200,7 @@ pub fn select_mv(
 // ---- clamping, 8.5.2.2
 
 // Where a block stands, in cells of 8 by 8 luma samples.
+#[repr(C)]
 pub struct BlockGrid {
     pub mi_row: i32,
     pub mi_col: i32,
@@ -207,6 +209,7 @@ pub struct BlockGrid {
     pub mi_size: u8,
 }
 
+#[repr(C)]
 pub struct ClampedMv {
     pub answer: u32,
     pub mv: PlaneMv,
@@ -299,6 +302,7 @@ pub fn clamp_mv(grid: BlockGrid, mv: Mv, plane: usize, sx: bool, sy: bool) -> Cl
 // ---- scaling, 8.5.2.3
 
 // The sizes of a reference and of the frame in luma samples, and the stream's sub.
+#[repr(C)]
 pub struct ScaleGeom {
     pub ref_frame_width: i32,
     pub ref_frame_height: i32,
@@ -309,6 +313,7 @@ pub struct ScaleGeom {
 }
 
 // Where a block starts in the reference's plane, and the step from sample to sample.
+#[repr(C)]
 pub struct ScaledMv {
     pub answer: u32,
     pub start_x: Sixteenth,

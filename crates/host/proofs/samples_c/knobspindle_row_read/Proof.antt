@@ -1,0 +1,53 @@
+-- `knobspindle_row_read` meets its contract: the row read's answer, and past it the place of the row. Assumes nothing.
+use mathlib.Core.Path.{_≡_, sym, _∙_}
+use native.Mathlib.Omega.{arith}
+use borrow.Author.Needs.{needs}
+use borrow.Author.Tests.{ne-eqb}
+use Rattle.base.specs.Answer.{answer}
+use Rattle.samples.specs.Plane.{Lent, lent, readRows}
+use Rattle.samples.proofs.Bands.{read-accepted, fits-says}
+use Rattle.samples.proofs.Casts.{read-back, small-nat}
+use Rattle.host.specs.InC.{rowPlace}
+use Rattle.host.proofs.samples_c.knobspindle_row_read.Statement.{statement}
+use Rattle.host.proofs.samples_c.knobspindle_row_read.Tie as tie
+
+abbrev start : tie.After-row-read → tie.Start
+start c = let k = c .before .before in k .before .before
+
+abbrev plane : tie.After-row-read → Lent
+plane c = let a = start c .args in lent (a .geom) (a .upper .now) (a .lower .now)
+
+-- past the refusal the table answers 0
+zero : (c : tie.Else1) → answer (readRows (plane (c .before)) (start (c .before) .args .y)) ≡ 0
+zero c = sym (c .before .row-read .ensures .number) ∙ c .if1 .left
+
+row-read-requires : tie.Need-row-read-requires
+row-read-requires c κs = search needs
+
+returns : tie.Need-returns
+unfolding rowPlace
+returns c = rw (sym (c .before .row-read .ensures .number), ne-eqb _ _ (c .if1 .taken))
+
+natural-requires : tie.Need-natural-requires
+natural-requires c κs = search needs
+
+placed-requires : tie.Need-placed-requires
+placed-requires c κs =
+    let t = c .before in
+    let k = t .before .before in
+    let ok = read-accepted (plane k) (start k .args .y) (zero (t .before)) in
+    let high = small-nat (start k .args .geom .height) (t .struct-told .given .1 .0 .1) in
+    (omega (arith, ok .0, high), fits-says (plane k) (ok .1) .near)
+
+returns-2 : tie.Need-returns-2
+unfolding rowPlace
+returns-2 c =
+    let n = c .before in
+    let t = n .before in
+    let g = start (t .before .before) .args .geom in
+    let wide = n .natural .ensures in
+    rw (zero (t .before)) (rw (wide, read-back (g .width) (t .struct-told .given .0 .1)) at (c .placed .ensures))
+
+pub knobspindle-row-read-spec : {M : Type 1} → statement M
+knobspindle-row-read-spec =
+    tie.close (tie.spec row-read-requires returns natural-requires placed-requires returns-2)

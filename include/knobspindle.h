@@ -1,0 +1,133 @@
+/* Knobspindle: VP9 inter prediction, proved. The C boundary of the static library libhost.a (x86-64).
+ *
+ * Every call takes any input. It answers with a number: 0 where the input is accepted, else the lowest number below whose row applies.
+ * Refused, a call returns zeros beside its answer and changes no buffer that was lent to it. No call allocates, keeps a pointer, or has
+ * state of its own, so calls may run in any number of threads. A bool is C's own: 0 or 1 and no other byte.
+ */
+#ifndef KNOBSPINDLE_H
+#define KNOBSPINDLE_H
+
+#include <stdbool.h>
+#include <stddef.h>
+#include <stdint.h>
+
+#ifdef __cplusplus
+extern "C" {
+#endif
+
+enum knobspindle_answer {
+    KNOBSPINDLE_ACCEPTED = 0,
+    KNOBSPINDLE_BLOCK = 1,  /* block size, sub-block, plane, w or h out of range; a partner sub-block that does not exist */
+    KNOBSPINDLE_GRID = 2,   /* mi_rows, mi_cols, mi_row, mi_col or tile out of range */
+    KNOBSPINDLE_TARGET = 3, /* target reference frame not 1..3 */
+    KNOBSPINDLE_FILTER = 4, /* filter above 3, or bit depth not 8, 10 or 12 */
+    KNOBSPINDLE_SIZE = 5,   /* a width or height not 1..65536, or a reference that is too large or too small for the frame */
+    KNOBSPINDLE_START = 6,  /* x, y, a start, a step or a row out of range */
+    KNOBSPINDLE_SHORT = 7,  /* a lent buffer too short, a stride out of range, more upper band rows than the plane has */
+    KNOBSPINDLE_RECORD = 8, /* a consulted record holds an illegal value */
+    KNOBSPINDLE_VECTOR = 9  /* a vector handed in has a component out of range */
+};
+
+/* A vector in eighths of a luma sample: what blocks and candidates have. */
+typedef struct {
+    int32_t row, col;
+} knobspindle_mv;
+
+/* A vector in sixteenths of a plane's sample: what knobspindle_clamp_mv makes of the first kind. Never one for the other. */
+typedef struct {
+    int32_t row, col;
+} knobspindle_plane_mv;
+
+/* A block's vectors: sub-blocks 0..3 of each list. */
+typedef struct {
+    knobspindle_mv list0[4], list1[4];
+} knobspindle_block_mvs;
+
+/* Where a block stands, in cells of 8 by 8 luma samples; mi_size is the standard's block size 0..12. */
+typedef struct {
+    int32_t mi_row, mi_col, mi_rows, mi_cols;
+    uint8_t mi_size;
+} knobspindle_block_grid;
+
+/* The sizes of a reference frame and of the frame in luma samples, and whether chroma is halved across and down. */
+typedef struct {
+    int32_t ref_frame_width, ref_frame_height, frame_width, frame_height;
+    bool subsampling_x, subsampling_y;
+} knobspindle_scale_geom;
+
+typedef struct {
+    uint32_t answer;
+    knobspindle_mv mv;
+} knobspindle_selected_mv;
+
+typedef struct {
+    uint32_t answer;
+    knobspindle_plane_mv mv;
+} knobspindle_clamped_mv;
+
+/* Where a block starts in the reference's plane and the step from sample to sample, in sixteenths of a sample. */
+typedef struct {
+    uint32_t answer;
+    int32_t start_x, start_y, step_x, step_y;
+} knobspindle_scaled_mv;
+
+/* A block: its size in samples (1..64 each), the filter (0 regular, 1 smooth, 2 sharp, 3 bilinear), the bit depth (8, 10 or 12), and
+ * whether the predictions from two references are averaged. */
+typedef struct {
+    size_t w, h, filter;
+    uint32_t depth;
+    bool average;
+} knobspindle_block_shape;
+
+/* A reference plane, lent in two bands with one stride: the upper one holds rows 0..upper_rows-1, the lower the rest. A band of k rows
+ * holds (k - 1) x stride + width samples or more, or none if k is 0. A plane in one piece: upper_rows = height, and NULL, 0 below. */
+typedef struct {
+    int32_t width, height;
+    size_t stride, upper_rows;
+} knobspindle_plane_geom;
+
+/* Where a block starts in a reference's plane and how it steps, in sixteenths of a sample: what knobspindle_scale_mv gives. */
+typedef struct {
+    int32_t start_x, start_y, step_x, step_y;
+} knobspindle_stepping;
+
+/* Where a row of a plane stands: in the upper band (0) or the lower (1), from which sample on, and how many samples it has. */
+typedef struct {
+    uint32_t answer, band;
+    size_t first, samples;
+} knobspindle_row_place;
+
+/* Numbers of working room that knobspindle_block_inter_predict asks for. */
+#define KNOBSPINDLE_ROOM 8576
+
+/* The vector that a plane (0 luma, 1 and 2 chroma) takes from list 0, or from list 1 where second is true. size is the block size 0..12,
+ * block the sub-block 0..3. Answers 1 and 9 (components -32767..32767, of both lists). */
+knobspindle_selected_mv knobspindle_select_mv(knobspindle_block_mvs of, bool second, size_t plane, uint8_t size, size_t block,
+                                              bool subsampling_x, bool subsampling_y);
+
+/* The vector in the plane's own units, held near the frame. Answers 1, 2 and 9 (components -32767..32767). */
+knobspindle_clamped_mv knobspindle_clamp_mv(knobspindle_block_grid grid, knobspindle_mv mv, size_t plane, bool subsampling_x,
+                                            bool subsampling_y);
+
+/* Where a clamped vector leads from sample (x, y) of the plane, and the steps. Answers 1, 5, 6 and 9 (components -65534..65534). */
+knobspindle_scaled_mv knobspindle_scale_mv(knobspindle_scale_geom geom, size_t plane, int32_t x, int32_t y, knobspindle_plane_mv mv);
+
+/* Where row y of a plane in two bands stands. Lengths count samples. Answers 5, 6 and 7. */
+knobspindle_row_place knobspindle_row_read(const uint16_t *upper, size_t upper_len, const uint16_t *lower, size_t lower_len,
+                                           knobspindle_plane_geom geom, size_t y);
+
+/* Predicts shape.w x shape.h samples from one reference or, where shape.average is true, from two, into out: row r from out[r x stride] on.
+ * Nothing of the second reference is looked at without averaging; zeros and NULL, 0 do. Lengths count numbers of 16 bits. out and room
+ * overlap neither each other nor a band. What room holds before never matters, and after an accepted call it is anything.
+ * Answers 1, 4, 5, 6 and 7. */
+uint32_t knobspindle_block_inter_predict(knobspindle_block_shape shape, knobspindle_plane_geom geom, knobspindle_stepping from,
+                                         const uint16_t *upper, size_t upper_len, const uint16_t *lower, size_t lower_len,
+                                         knobspindle_plane_geom geom2, knobspindle_stepping from2, const uint16_t *upper2,
+                                         size_t upper2_len, const uint16_t *lower2, size_t lower2_len, uint16_t *room, size_t room_len,
+                                         uint16_t *out, size_t out_len, size_t stride);
+
+#ifdef __cplusplus
+}
+#endif
+
+#endif

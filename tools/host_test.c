@@ -1,0 +1,141 @@
+/* Calls every exported function once or more through the shipped header, and checks what comes back. */
+#include "knobspindle.h"
+#include <stdio.h>
+
+static int checks, failed;
+
+static void check(const char *what, long long got, long long want)
+{
+    checks++;
+    if (got != want) {
+        failed++;
+        printf("%s: %lld, not %lld\n", what, got, want);
+    }
+}
+
+static void select_mv(void)
+{
+    knobspindle_block_mvs of = {
+        .list0 = {{10, -20}, {-3, 1}, {32767, -32767}, {0, 2}},
+        .list1 = {{-1, 1}, {-2, 1}, {-3, 1}, {0, 2}},
+    };
+    knobspindle_selected_mv r = knobspindle_select_mv(of, false, 0, 0, 2, false, false);
+    check("select, luma: answer", r.answer, KNOBSPINDLE_ACCEPTED);
+    check("select, luma: row", r.mv.row, 32767);
+    check("select, luma: column", r.mv.col, -32767);
+    /* document 01: halved height pairs b with b + 2, ties away from zero */
+    r = knobspindle_select_mv(of, false, 1, 0, 1, false, true);
+    check("select, 4:4:0: row", r.mv.row, -2);
+    check("select, 4:4:0: column", r.mv.col, 2);
+    r = knobspindle_select_mv(of, true, 2, 0, 0, true, true);
+    check("select, 4:2:0: row", r.mv.row, -2);
+    check("select, 4:2:0: column", r.mv.col, 1);
+    r = knobspindle_select_mv(of, false, 1, 0, 2, false, true);
+    check("select, no partner: answer", r.answer, KNOBSPINDLE_BLOCK);
+    check("select, no partner: row", r.mv.row, 0);
+    of.list1[3].col = -32768;
+    r = knobspindle_select_mv(of, false, 0, 0, 0, false, false);
+    check("select, list 1 out of range: answer", r.answer, KNOBSPINDLE_VECTOR);
+}
+
+static void clamp_mv(void)
+{
+    knobspindle_block_grid grid = {.mi_row = 0, .mi_col = 3, .mi_rows = 4, .mi_cols = 5, .mi_size = 3};
+    knobspindle_clamped_mv r = knobspindle_clamp_mv(grid, (knobspindle_mv){-7, 9}, 0, true, true);
+    check("clamp, near: answer", r.answer, KNOBSPINDLE_ACCEPTED);
+    check("clamp, near: row", r.mv.row, -14);
+    check("clamp, near: column", r.mv.col, 18);
+    /* row: 0 - (4 + 8) x 16; column: (5 - 1 - 3) x 8 x 16 + (4 + 8) x 16 - 16 */
+    r = knobspindle_clamp_mv(grid, (knobspindle_mv){-32767, 32767}, 0, true, true);
+    check("clamp, far: row", r.mv.row, -192);
+    check("clamp, far: column", r.mv.col, 304);
+    grid.mi_col = 5;
+    r = knobspindle_clamp_mv(grid, (knobspindle_mv){1, 1}, 0, false, false);
+    check("clamp, beside the frame: answer", r.answer, KNOBSPINDLE_GRID);
+    check("clamp, beside the frame: row", r.mv.row, 0);
+}
+
+static void scale_mv(void)
+{
+    knobspindle_scale_geom geom = {.ref_frame_width = 640, .ref_frame_height = 720, .frame_width = 640, .frame_height = 360};
+    knobspindle_scaled_mv r = knobspindle_scale_mv(geom, 0, 100, 50, (knobspindle_plane_mv){-5, 7});
+    check("scale: answer", r.answer, KNOBSPINDLE_ACCEPTED);
+    check("scale: start_x", r.start_x, 1607);
+    check("scale: start_y", r.start_y, 1590);
+    check("scale: step_x", r.step_x, 16);
+    check("scale: step_y", r.step_y, 32);
+    r = knobspindle_scale_mv(geom, 0, -1, 0, (knobspindle_plane_mv){0, 0});
+    check("scale, x below 0: answer", r.answer, KNOBSPINDLE_START);
+    check("scale, x below 0: step_x", r.step_x, 0);
+    geom.frame_height = 359;
+    r = knobspindle_scale_mv(geom, 0, 0, 0, (knobspindle_plane_mv){0, 0});
+    check("scale, reference too large: answer", r.answer, KNOBSPINDLE_SIZE);
+}
+
+static void row_read(void)
+{
+    static const uint16_t upper[8], lower[7];
+    knobspindle_plane_geom geom = {.width = 3, .height = 4, .stride = 4, .upper_rows = 2};
+    knobspindle_row_place r = knobspindle_row_read(upper, 8, lower, 7, geom, 1);
+    check("row read, above: answer", r.answer, KNOBSPINDLE_ACCEPTED);
+    check("row read, above: band", r.band, 0);
+    check("row read, above: first", r.first, 4);
+    check("row read, above: samples", r.samples, 3);
+    r = knobspindle_row_read(upper, 8, lower, 7, geom, 3);
+    check("row read, below: band", r.band, 1);
+    check("row read, below: first", r.first, 4);
+    r = knobspindle_row_read(upper, 8, lower, 6, geom, 3);
+    check("row read, lower band short: answer", r.answer, KNOBSPINDLE_SHORT);
+    check("row read, lower band short: samples", r.samples, 0);
+    r = knobspindle_row_read(upper, 8, lower, 7, geom, 4);
+    check("row read, row 4 of 4: answer", r.answer, KNOBSPINDLE_START);
+    geom.height = -1;
+    r = knobspindle_row_read(upper, 8, lower, 7, geom, 0);
+    check("row read, height -1: answer", r.answer, KNOBSPINDLE_SIZE);
+}
+
+static void block_inter_predict(void)
+{
+    /* document 01: bilinear, half a sample on, is the rounded mean; held at the right edge. Rows 0 and 1 above, row 2 below. */
+    static const uint16_t upper[8] = {10, 20, 30, 99, 40, 50, 60, 99}, lower[3] = {70, 81, 255};
+    static const uint16_t other[9] = {0, 0, 0, 0, 0, 0, 0, 0, 0};
+    static uint16_t room[KNOBSPINDLE_ROOM];
+    uint16_t out[10] = {1, 2, 3, 4, 5, 6, 7, 8, 9, 10};
+    knobspindle_block_shape shape = {.w = 3, .h = 2, .filter = 3, .depth = 8, .average = false};
+    knobspindle_plane_geom geom = {.width = 3, .height = 3, .stride = 4, .upper_rows = 2}, none = {0, 0, 0, 0};
+    knobspindle_stepping from = {.start_x = 8, .start_y = 16, .step_x = 16, .step_y = 16}, nowhere = {0, 0, 0, 0};
+    uint32_t answer = knobspindle_block_inter_predict(shape, geom, from, upper, 8, lower, 3, none, nowhere, NULL, 0, NULL, 0, room,
+                                                      KNOBSPINDLE_ROOM, out, 10, 5);
+    static const uint16_t want[10] = {45, 55, 60, 4, 5, 76, 168, 255, 9, 10};
+    check("block: answer", answer, KNOBSPINDLE_ACCEPTED);
+    for (int i = 0; i < 10; i++)
+        check("block: sample", out[i], want[i]);
+    /* averaged with a plane of zeros, one row of it above: (45 + 0 + 1) / 2 */
+    shape.average = true;
+    knobspindle_plane_geom geom2 = {.width = 3, .height = 3, .stride = 3, .upper_rows = 1};
+    answer = knobspindle_block_inter_predict(shape, geom, from, upper, 8, lower, 3, geom2, from, other, 3, other + 3, 6, room,
+                                             KNOBSPINDLE_ROOM, out, 10, 5);
+    check("block, averaged: answer", answer, KNOBSPINDLE_ACCEPTED);
+    check("block, averaged: first", out[0], 23);
+    check("block, averaged: last", out[7], 128);
+    check("block, averaged: between", out[3], 4);
+    answer = knobspindle_block_inter_predict(shape, geom, from, upper, 8, lower, 2, geom2, from, other, 3, other + 3, 6, room,
+                                             KNOBSPINDLE_ROOM, out, 10, 5);
+    check("block, lower band short: answer", answer, KNOBSPINDLE_SHORT);
+    check("block, lower band short: first", out[0], 23);
+    shape.depth = 9;
+    answer = knobspindle_block_inter_predict(shape, geom, from, upper, 8, lower, 2, geom2, from, other, 3, other + 3, 6, room,
+                                             KNOBSPINDLE_ROOM, out, 10, 5);
+    check("block, depth 9: answer", answer, KNOBSPINDLE_FILTER);
+}
+
+int main(void)
+{
+    select_mv();
+    clamp_mv();
+    scale_mv();
+    row_read();
+    block_inter_predict();
+    printf("host: %d checks, %d failed\n", checks, failed);
+    return failed != 0;
+}

@@ -1,0 +1,2 @@
+int printf(const char *, ...);
+int snprintf(char *, __SIZE_TYPE__, const char *, ...);

@@ -1,0 +1,1 @@
+long write(int, const void *, __SIZE_TYPE__);

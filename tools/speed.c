@@ -1,0 +1,315 @@
+/* Runs the same inputs through Knobspindle and through the Rust, in one program, and compares what they give. See tools/speed.
+ *
+ *   speed              every case on both sides, compared; then once more with a line before and after each call, for a trace to be cut at
+ *   speed list         the cases: number, group, name
+ *   speed N SIDE REPS  case N on one side (ours or rust), REPS times
+ */
+#include "knobspindle.h"
+#include <stdio.h>
+#include <stdlib.h>
+#include <string.h>
+#include <unistd.h>
+
+#define NEVER_INLINE __attribute__((noinline))
+
+/* ---- the arguments, as tools/speed_rust/src/lib.rs lays them out */
+
+struct select {
+    int32_t vectors[2][4][2];
+    bool second, sub_x, sub_y;
+    uint8_t size;
+    size_t plane, block;
+};
+
+struct clamp {
+    int32_t mi_row, mi_col, mi_rows, mi_cols, vector[2];
+    size_t plane;
+    uint8_t size;
+    bool sub_x, sub_y;
+};
+
+struct scale {
+    int32_t sizes[4], x, y, vector[2];
+    size_t plane;
+    bool sub_x, sub_y;
+};
+
+struct reference {
+    int32_t width, height;
+    size_t stride;
+    const uint16_t *samples;
+    int32_t start_x, start_y, step_x, step_y;
+};
+
+struct block {
+    size_t w, h, filter;
+    uint32_t depth;
+    bool average;
+    struct reference refs[2];
+    uint16_t *out;
+    size_t stride;
+};
+
+void rust_select_mv(const struct select *, int32_t out[2]);
+void rust_clamp_mv(const struct clamp *, int32_t out[2]);
+void rust_scale_mv(const struct scale *, int32_t out[4]);
+void rust_block_inter_predict(const struct block *, int32_t room[64 * 71], int32_t beside[64 * 64]);
+
+/* ---- one case at a time: its arguments, and what each side gave */
+
+enum { OURS, RUST };
+
+static struct select select_args;
+static struct clamp clamp_args;
+static struct scale scale_args;
+static uint32_t answer;
+static int32_t given[2][4];
+
+static NEVER_INLINE void ours_select(void)
+{
+    knobspindle_block_mvs of;
+    memcpy(&of, select_args.vectors, sizeof of);
+    const struct select *a = &select_args;
+    knobspindle_selected_mv r = knobspindle_select_mv(of, a->second, a->plane, a->size, a->block, a->sub_x, a->sub_y);
+    answer = r.answer;
+    given[OURS][0] = r.mv.row;
+    given[OURS][1] = r.mv.col;
+}
+
+static NEVER_INLINE void rust_select(void)
+{
+    rust_select_mv(&select_args, given[RUST]);
+}
+
+static NEVER_INLINE void ours_clamp(void)
+{
+    const struct clamp *a = &clamp_args;
+    knobspindle_block_grid grid = {a->mi_row, a->mi_col, a->mi_rows, a->mi_cols, a->size};
+    knobspindle_mv v = {a->vector[0], a->vector[1]};
+    knobspindle_clamped_mv r = knobspindle_clamp_mv(grid, v, a->plane, a->sub_x, a->sub_y);
+    answer = r.answer;
+    given[OURS][0] = r.mv.row;
+    given[OURS][1] = r.mv.col;
+}
+
+static NEVER_INLINE void rust_clamp(void)
+{
+    rust_clamp_mv(&clamp_args, given[RUST]);
+}
+
+static NEVER_INLINE void ours_scale(void)
+{
+    const struct scale *a = &scale_args;
+    knobspindle_scale_geom geom = {a->sizes[0], a->sizes[1], a->sizes[2], a->sizes[3], a->sub_x, a->sub_y};
+    knobspindle_plane_mv v = {a->vector[0], a->vector[1]};
+    knobspindle_scaled_mv r = knobspindle_scale_mv(geom, a->plane, a->x, a->y, v);
+    answer = r.answer;
+    given[OURS][0] = r.start_x;
+    given[OURS][1] = r.start_y;
+    given[OURS][2] = r.step_x;
+    given[OURS][3] = r.step_y;
+}
+
+static NEVER_INLINE void rust_scale(void)
+{
+    rust_scale_mv(&scale_args, given[RUST]);
+}
+
+/* ---- planes and outputs of block prediction */
+
+enum { WIDTH = 250, HEIGHT = 240, STRIDE = 256, OUT_STRIDE = 96, OUT = 64 * OUT_STRIDE };
+
+static uint16_t out[2][OUT];
+
+#ifdef HAVE_knobspindle_block_inter_predict
+static uint16_t planes[2][HEIGHT * STRIDE];
+static struct block block_args;
+static uint16_t room[8576];
+static int32_t rust_room[64 * 71], rust_beside[64 * 64];
+
+static NEVER_INLINE void ours_block(void)
+{
+    const struct block *a = &block_args;
+    const struct reference *p = &a->refs[0], *q = &a->refs[1];
+    knobspindle_block_shape shape = {a->w, a->h, a->filter, a->depth, a->average};
+    knobspindle_plane_geom geom = {p->width, p->height, p->stride, p->height}, geom2 = {q->width, q->height, q->stride, q->height};
+    knobspindle_stepping from = {p->start_x, p->start_y, p->step_x, p->step_y}, from2 = {q->start_x, q->start_y, q->step_x, q->step_y};
+    answer = knobspindle_block_inter_predict(shape, geom, from, p->samples, p->height * p->stride, NULL, 0, geom2, from2, q->samples,
+                                             q->height * q->stride, NULL, 0, room, 8576, out[OURS], OUT, a->stride);
+}
+
+static NEVER_INLINE void rust_block(void)
+{
+    rust_block_inter_predict(&block_args, rust_room, rust_beside);
+}
+
+static uint32_t chance = 1;
+
+static uint32_t next(void)
+{
+    chance = chance * 1664525 + 1013904223;
+    return chance >> 12;
+}
+
+static void fill_planes(uint32_t depth)
+{
+    chance = depth;
+    for (int i = 0; i < HEIGHT * STRIDE; i++) {
+        planes[0][i] = next() & ((1u << depth) - 1);
+        planes[1][i] = next() & ((1u << depth) - 1);
+    }
+}
+#endif
+
+static void fill_outputs(void)
+{
+    answer = 99;
+    memset(given, 0, sizeof given);
+    for (int i = 0; i < OUT; i++)
+        out[OURS][i] = out[RUST][i] = (i * 37 + 11) % 1021;
+}
+
+static bool same(void)
+{
+    return answer == 0 && !memcmp(given[OURS], given[RUST], sizeof given[0]) && !memcmp(out[OURS], out[RUST], sizeof out[0]);
+}
+
+/* ---- what is done with a case */
+
+static int wanted = -1, number, differ;
+static const char *wanted_side;
+static int reps;
+static bool list, trace;
+
+static void mark(const char *line)
+{
+    write(1, line, strlen(line));
+}
+
+static NEVER_INLINE void nothing(void)
+{
+    __asm__ volatile("");
+}
+
+/* The trace between the two lines is the call, and what an empty case costs. */
+static void traced(const char *side, const char *name, void (*run)(void))
+{
+    char line[100];
+    snprintf(line, sizeof line, "@%s %s\n", side, name);
+    mark(line);
+    run();
+    mark("@end\n");
+}
+
+static void one_case(const char *group, const char *name, void (*ours)(void), void (*rust)(void))
+{
+    int n = number++;
+    if (list) {
+        printf("%d\t%s\t%s\n", n, group, name);
+        return;
+    }
+    if (wanted >= 0) {
+        void (*run)(void) = strcmp(wanted_side, "ours") ? rust : ours;
+        for (int i = 0; n == wanted && i < reps; i++)
+            run();
+        return;
+    }
+    fill_outputs();
+    ours();
+    rust();
+    if (!same()) {
+        differ++;
+        printf("DIFFERENT: %s: our answer is %u\n", name, answer);
+    }
+    if (trace) {
+        traced("ours", name, ours);
+        traced("rust", name, rust);
+    }
+}
+
+/* ---- the cases */
+
+static void vectors(void)
+{
+    static const struct select s = {.vectors = {{{10, -20}, {-3, 1}, {320, -77}, {0, 2}}, {{-1, 1}, {-2, 1}, {-3, 1}, {0, 2}}}};
+    select_args = s;
+    one_case("vectors", "select_mv, luma", ours_select, rust_select);
+    select_args.plane = 1;
+    select_args.sub_x = select_args.sub_y = select_args.second = true;
+    one_case("vectors", "select_mv, chroma below 8x8 at 4:2:0", ours_select, rust_select);
+    clamp_args = (struct clamp){10, 20, 90, 160, {-77, 130}, 0, 9, true, true};
+    one_case("vectors", "clamp_mv, luma", ours_clamp, rust_clamp);
+    clamp_args.plane = 2;
+    clamp_args.vector[0] = -4000;
+    one_case("vectors", "clamp_mv, chroma at 4:2:0, held", ours_clamp, rust_clamp);
+    scale_args = (struct scale){{1280, 720, 1280, 720}, 320, 200, {-154, 260}, 0, true, true};
+    one_case("vectors", "scale_mv, same size", ours_scale, rust_scale);
+    scale_args.sizes[0] = 1600;
+    scale_args.sizes[1] = 900;
+    one_case("vectors", "scale_mv, 5:4", ours_scale, rust_scale);
+}
+
+#ifdef HAVE_knobspindle_block_inter_predict
+/* A w x w block whose first sample is (x, y) and the phase; both references alike but for what they hold. */
+static void block_case(const char *group, const char *name, size_t w, int x, int y, int phase_x, int phase_y, int step, uint32_t depth, bool average)
+{
+    struct reference r = {WIDTH, HEIGHT, STRIDE, planes[0], 16 * x + phase_x, 16 * y + phase_y, step, step};
+    block_args = (struct block){w, w, 0, depth, average, {r, r}, out[RUST], OUT_STRIDE};
+    block_args.refs[1].samples = planes[1];
+    one_case(group, name, ours_block, rust_block);
+}
+
+static const int sizes[] = {4, 8, 16, 64};
+static const char *const kinds[] = {"copy", "horizontal", "vertical", "both"};
+
+static void blocks(void)
+{
+    char name[80];
+    fill_planes(8);
+    for (int edge = 0; edge < 2; edge++)
+        for (int i = 0; i < 4; i++)
+            for (int k = 0; k < 4; k++) {
+                int at = edge ? -2 : 50;
+                snprintf(name, sizeof name, "%dx%d %s, %s", sizes[i], sizes[i], kinds[k], edge ? "edge" : "interior");
+                block_case("block", name, sizes[i], at, at, k & 1 ? 5 : 0, k & 2 ? 9 : 0, 16, 8, false);
+            }
+    for (int i = 2; i < 4; i++)
+        for (int step = 20; step <= 32; step += 12) {
+            snprintf(name, sizeof name, "%dx%d steps of %d", sizes[i], sizes[i], step);
+            block_case("block", name, sizes[i], 50, 50, 5, 9, step, 8, false);
+        }
+    for (int i = 2; i < 4; i++)
+        for (int k = 0; k < 4; k += 3) {
+            snprintf(name, sizeof name, "%dx%d %s, interior, averaged", sizes[i], sizes[i], kinds[k]);
+            block_case("beside", name, sizes[i], 50, 50, k & 1 ? 5 : 0, k & 2 ? 9 : 0, 16, 8, true);
+        }
+    fill_planes(10);
+    for (int i = 2; i < 4; i++)
+        for (int k = 0; k < 4; k++) {
+            snprintf(name, sizeof name, "%dx%d %s, interior, 10 bit", sizes[i], sizes[i], kinds[k]);
+            block_case("beside", name, sizes[i], 50, 50, k & 1 ? 5 : 0, k & 2 ? 9 : 0, 16, 10, false);
+        }
+}
+#endif
+
+int main(int argc, char **argv)
+{
+    list = argc == 2 && !strcmp(argv[1], "list");
+    trace = argc == 1;
+    if (argc == 4) {
+        wanted = atoi(argv[1]);
+        wanted_side = argv[2];
+        reps = atoi(argv[3]);
+    }
+    if (trace) {
+        traced("nothing", "nothing", nothing); /* the first print is dearer than the next */
+        traced("empty", "empty", nothing);
+    }
+    vectors();
+#ifdef HAVE_knobspindle_block_inter_predict
+    blocks();
+#endif
+    if (!list && wanted < 0)
+        printf("%d cases, %d differences\n", number, differ);
+    return differ != 0;
+}
