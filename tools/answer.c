@@ -135,6 +135,11 @@ static bool plane_scene(uint32_t *queries) {
 static knobspindle_plane_geom plane(const uint8_t *r) { return (knobspindle_plane_geom){i32(r), i32(r + 4), u64(r + 8), u64(r + 16)}; }
 static knobspindle_stepping stepping(const uint8_t *r) { return (knobspindle_stepping){i32(r), i32(r + 4), i32(r + 8), i32(r + 12)}; }
 
+static bool row_agrees(const uint8_t *r) {
+    knobspindle_row_place got = knobspindle_row_read(bands[0], u32(r + 24), bands[1], u32(r + 28), plane(r), u64(r + 32));
+    return got.answer == u32(r + 40) && got.band == u32(r + 44) && got.first == u64(r + 48) && got.samples == u64(r + 56);
+}
+
 /* what stands in the output before a call */
 static void pattern(uint16_t *to, size_t n) {
     for (size_t i = 0; i < n; i++) to[i] = (uint16_t)((i * 37 + 11) % 1021);
@@ -179,7 +184,7 @@ static const call calls[] = {
     {"find_best_ref_mvs", 64, 0, best_agrees},
     {"find_mv_refs", 88, table_scene, search_agrees},
     {"append_sub8x8_mvs", 120, table_scene, append_agrees},
-    {"row_read", 64, 0, 0}, /* not exported yet */
+    {"row_read", 64, plane_scene, row_agrees},
     {"block_inter_predict", 160, plane_scene, block_agrees},
 };
 
@@ -187,8 +192,7 @@ enum outcome { AGREES, DIFFERS, BROKEN };
 
 static enum outcome answer_file(const uint8_t *header) {
     uint32_t number = u32(header + 4), count = u32(header + 12);
-    if (memcmp(header, "KNOB", 4) != 0 || number < 1 || number > sizeof calls / sizeof *calls || u32(header + 8) != calls[number - 1].length ||
-        !calls[number - 1].agrees) {
+    if (memcmp(header, "KNOB", 4) != 0 || number < 1 || number > sizeof calls / sizeof *calls || u32(header + 8) != calls[number - 1].length) {
         printf("answer: not a file of cases that this program knows (call %u)\n", number);
         return BROKEN;
     }

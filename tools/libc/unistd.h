@@ -1,1 +1,2 @@
+long read(int, void *, __SIZE_TYPE__);
 long write(int, const void *, __SIZE_TYPE__);
