@@ -4,4 +4,5 @@ mod held;
 
 pub use geometry::MvRefGeometry;
 pub use geometry::Spot;
+pub use geometry::grid_ok;
 pub use held::Held;
