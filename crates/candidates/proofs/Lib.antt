@@ -1,3 +1,5 @@
+pub mod Anywhere
 pub mod Fit
 pub mod Grid
 pub mod Joined
+pub mod Read

@@ -1,6 +1,8 @@
 // The candidate search over lent tables, before clamping: places, records, offers.
 mod geometry;
 mod held;
+mod places;
+mod tables;
 
 pub use geometry::MvRefGeometry;
 pub use geometry::Spot;

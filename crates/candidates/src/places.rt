@@ -1,0 +1,181 @@
+// The constant tables of the search, as the standard has them.
+ghost use mathlib.Core.Path.{_≡_};
+ghost use Prim.Native.Nat.{_<_, _≤_};
+ghost use mathlib.Core.List.{[]};
+ghost use lib.IntN.{pos};
+ghost use lib.ListN.{getD};
+ghost use Rattle.candidates.specs.Places as Places;
+ghost use Rattle.candidates.specs.Scan.{Counted};
+
+// mv_ref_blocks: eight places for each of the thirteen block sizes, row before column.
+const MV_REF_BLOCKS: [[[i8; 2]; 8]; 13] = [
+    [
+        [-1, 0],
+        [0, -1],
+        [-1, -1],
+        [-2, 0],
+        [0, -2],
+        [-2, -1],
+        [-1, -2],
+        [-2, -2],
+    ],
+    [
+        [-1, 0],
+        [0, -1],
+        [-1, -1],
+        [-2, 0],
+        [0, -2],
+        [-2, -1],
+        [-1, -2],
+        [-2, -2],
+    ],
+    [
+        [-1, 0],
+        [0, -1],
+        [-1, -1],
+        [-2, 0],
+        [0, -2],
+        [-2, -1],
+        [-1, -2],
+        [-2, -2],
+    ],
+    [
+        [-1, 0],
+        [0, -1],
+        [-1, -1],
+        [-2, 0],
+        [0, -2],
+        [-2, -1],
+        [-1, -2],
+        [-2, -2],
+    ],
+    [
+        [0, -1],
+        [-1, 0],
+        [1, -1],
+        [-1, -1],
+        [0, -2],
+        [-2, 0],
+        [-2, -1],
+        [-1, -2],
+    ],
+    [
+        [-1, 0],
+        [0, -1],
+        [-1, 1],
+        [-1, -1],
+        [-2, 0],
+        [0, -2],
+        [-1, -2],
+        [-2, -1],
+    ],
+    [
+        [-1, 0],
+        [0, -1],
+        [-1, 1],
+        [1, -1],
+        [-1, -1],
+        [-3, 0],
+        [0, -3],
+        [-3, -3],
+    ],
+    [
+        [0, -1],
+        [-1, 0],
+        [2, -1],
+        [-1, -1],
+        [-1, 1],
+        [0, -3],
+        [-3, 0],
+        [-3, -3],
+    ],
+    [
+        [-1, 0],
+        [0, -1],
+        [-1, 2],
+        [-1, -1],
+        [1, -1],
+        [-3, 0],
+        [0, -3],
+        [-3, -3],
+    ],
+    [
+        [-1, 1],
+        [1, -1],
+        [-1, 2],
+        [2, -1],
+        [-1, -1],
+        [-3, 0],
+        [0, -3],
+        [-3, -3],
+    ],
+    [
+        [0, -1],
+        [-1, 0],
+        [4, -1],
+        [-1, 2],
+        [-1, -1],
+        [0, -3],
+        [-3, 0],
+        [2, -1],
+    ],
+    [
+        [-1, 0],
+        [0, -1],
+        [-1, 4],
+        [2, -1],
+        [-1, -1],
+        [-3, 0],
+        [0, -3],
+        [-1, 2],
+    ],
+    [
+        [-1, 3],
+        [3, -1],
+        [-1, 4],
+        [4, -1],
+        [-1, -1],
+        [-1, 0],
+        [0, -1],
+        [-1, 6],
+    ],
+];
+
+// mode_2_counter, counter_to_context and idx_n_column_to_subblock.
+const MODE_2_COUNTER: [u8; 14] = [9, 9, 9, 9, 9, 9, 9, 9, 9, 9, 0, 0, 3, 1];
+
+const COUNTER_TO_CONTEXT: [u8; 19] = [2, 3, 4, 1, 3, 9, 0, 9, 9, 5, 5, 9, 5, 9, 9, 9, 9, 9, 6];
+
+const IDX_N_COLUMN_TO_SUBBLOCK: [[u8; 2]; 4] = [[1, 2], [1, 3], [3, 2], [3, 3]];
+
+// The places of a size, fetched once for each search: a table that is indexed is built anew each time.
+pub(crate) fn places_of(size: usize) -> [[i8; 2]; 8]
+    requires { ⌜ size ≤ 12 ⌝ }
+    ensures { λ r. ⌜ r ≡ getD Places.places size [] ⌝ }
+{
+    MV_REF_BLOCKS[size]
+}
+
+pub(crate) fn step_of(places: [[i8; 2]; 8], k: usize, part: usize) -> i32
+    requires { ⌜ (k < 8) × (part < 2) ⌝ }
+    ensures { λ r. ⌜ r ≡ getD (getD places k []) part (pos 0) ⌝ }
+{
+    places[k][part] as i32
+}
+
+pub(crate) fn counter_of(mode: u8) -> usize
+    ensures { λ r. ⌜ Counted mode r ⌝ }
+{
+    if mode < 14 {
+        MODE_2_COUNTER[mode as usize] as usize
+    } else {
+        0
+    }
+}
+
+pub(crate) fn context_of(counter: usize) -> u8
+    requires { ⌜ counter ≤ 18 ⌝ }
+    ensures { λ r. ⌜ r ≡ getD Places.contexts counter 0 ⌝ }
+{
+    COUNTER_TO_CONTEXT[counter]
+}
