@@ -7,7 +7,7 @@ use native.Mathlib.Nat.{mul-le-mul, mul-le-mul-right, suc-mul}
 use native.Mathlib.Omega.{arith}
 use borrow.Author.Tests.{leb-true, ltb-true}
 use lib.Dec.{T}
-use lib.IntN.{ℤ, pos, negsuc, _+ℤ_}
+use lib.IntN.{ℤ, pos, negsuc, natAbs, _+ℤ_}
 use lib.ListN.{getD}
 use lib.Signed.{leZ, ltZ, nonNeg}
 use Rattle.base.specs.Number.{between}
@@ -32,6 +32,10 @@ lt-toN (pos a) (pos b) t e = ltb-true a b e
 lt-toN (pos a) (negsuc b) t e = clash e
 lt-toN (negsuc a) b t e = absurd t
 
+abs-toN : (a : ℤ) → T (nonNeg a) → natAbs a ≡ toN a
+abs-toN (pos a) t = refl
+abs-toN (negsuc a) t = absurd t
+
 -- at least 0
 up : (a : ℤ) → leZ (pos 0) a ≡ true → T (nonNeg a)
 up a e = leZ-up (pos 0) a tt e .0
@@ -51,6 +55,8 @@ pub record Grid (g : MvRefGeometry) : Type 0 where
   pub cols : toN (g .«mi_cols») ≤ 8192
   pub row : toN (g .«mi_row») < toN (g .«mi_rows»)
   pub col : toN (g .«mi_col») < toN (g .«mi_cols»)
+  pub rowAbs : natAbs (g .«mi_row») ≤ 8192
+  pub colAbs : natAbs (g .«mi_col») ≤ 8192
   pub start : T (nonNeg (g .«mi_col_start»))
   pub end : toN (g .«mi_col_end») ≤ toN (g .«mi_cols»)
 
@@ -65,13 +71,20 @@ grid g e =
     ∷ leZ (pos 0) (g .«mi_row») ∷ ltZ (g .«mi_row») rows ∷ leZ (pos 0) (g .«mi_col_start»)
     ∷ leZ (g .«mi_col_start») (g .«mi_col») ∷ ltZ (g .«mi_col») end ∷ leZ end cols ∷ []) e in
     let start = up (g .«mi_col_start») (test 4) in
+    let top = up (g .«mi_row») (test 2) in
     let left = leZ-up (g .«mi_col_start») (g .«mi_col») start (test 5) .0 in
     let past = le-toN end cols (test 7) in
+    let many = le-toN rows (pos 8192) (and-right (leZ (pos 1) rows) (leZ rows (pos 8192)) (test 0)) in
+    let wide = le-toN cols (pos 8192) (and-right (leZ (pos 1) cols) (leZ cols (pos 8192)) (test 1)) in
+    let above = lt-toN (g .«mi_row») rows top (test 3) in
+    let before = lt-toN (g .«mi_col») end left (test 6) in
     record {
-      rows = le-toN rows (pos 8192) (and-right (leZ (pos 1) rows) (leZ rows (pos 8192)) (test 0));
-      cols = le-toN cols (pos 8192) (and-right (leZ (pos 1) cols) (leZ cols (pos 8192)) (test 1));
-      row = lt-toN (g .«mi_row») rows (up (g .«mi_row») (test 2)) (test 3);
-      col = omega (arith, lt-toN (g .«mi_col») end left (test 6), past);
+      rows = many;
+      cols = wide;
+      row = above;
+      col = omega arith;
+      rowAbs = omega (arith, abs-toN (g .«mi_row») top);
+      colAbs = omega (arith, abs-toN (g .«mi_col») left);
       start = start;
       end = past;
     }

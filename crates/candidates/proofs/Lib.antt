@@ -3,3 +3,5 @@ pub mod Fit
 pub mod Grid
 pub mod Joined
 pub mod Read
+pub mod Rooms
+pub mod Steps

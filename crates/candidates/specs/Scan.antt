@@ -1,7 +1,7 @@
 -- Internal: what the scans' code is proved against, between the definitions of Search and the loops. Assumes nothing.
 use Prim.Native.Nat.{ℕ, _+_, _*_, _^_, _≤_, _<_}
 use mathlib.Core.Path.{_≡_}
-use mathlib.Core.Bool.{Bool, true}
+use mathlib.Core.Bool.{Bool, true, cond}
 use mathlib.Core.List.{List}
 use lib.IntN.{ℤ}
 use lib.ListN.{length, getD}
@@ -10,6 +10,8 @@ use Rattle.base.specs.Position.{toN}
 use Rattle.base.specs.Vector.{mv}
 use Rattle.base.specs.declared.units.Mv.{Mv}
 use Rattle.candidates.specs.Places.{counters}
+use Rattle.candidates.specs.Tables.{Tables, spot}
+use Rattle.candidates.specs.Records.{upTo, legalPair, legalSpot}
 use Rattle.candidates.specs.declared.geometry.MvRefGeometry.{MvRefGeometry}
 
 -- a row and a column of cells that the frame has: their cell is small
@@ -37,3 +39,26 @@ pub record Vector (row col : ℤ) (v : Mv) : Type 0 where
   pub is : v ≡ mv row col
   pub rowSmall : mag (v .row .0) < 2 ^ 15
   pub colSmall : mag (v .col .0) < 2 ^ 15
+
+-- tables of frames and vectors that hold n records
+pub record Pairs (n : ℕ) (fs vs : List ℤ) : Type 0 where
+  pub frames : 2 * n ≤ length fs
+  pub mvs : 4 * n ≤ length vs
+
+-- all four tables of the frame
+pub record Room (n : ℕ) (ms : List ℕ) (fs vs ss : List ℤ) : Type 0 where
+  pub modes : n ≤ length ms
+  pub pairs : Pairs n fs vs
+  pub subs : 16 * n ≤ length ss
+
+-- the previous tables, if the previous frame is used
+unfoldable pub PrevRoom : Bool → ℕ → List ℤ → List ℤ → Type 0
+PrevRoom usePrev n fs vs = usePrev ≡ true → Pairs n fs vs
+
+-- the records of places 0, 1, .., n - 1 are legal
+unfoldable pub legalPlaces : Tables → MvRefGeometry → ℕ → Bool
+legalPlaces t g n = upTo n (λ (k : ℕ). legalSpot t (spot g k))
+
+-- the previous record is legal, if the previous frame is used
+unfoldable pub legalPrev : Bool → List ℤ → List ℤ → ℕ → Bool
+legalPrev usePrev fs vs i = cond usePrev (legalPair fs vs i) true

@@ -1,6 +1,10 @@
 // Where a block and its neighbours stand, in cells of 8 by 8 luma samples.
 ghost use mathlib.Core.Bool.{true};
 ghost use mathlib.Core.Path.{_≡_};
+ghost use mathlib.Core.List.{[]};
+ghost use Prim.Native.Nat.{_<_};
+ghost use lib.ListN.{getD};
+ghost use Rattle.candidates.specs.Places as Places;
 ghost use Rattle.candidates.specs.Tables as Tables;
 ghost use Rattle.candidates.specs.Scan.{Placed};
 
@@ -65,4 +69,14 @@ pub(crate) fn own(g: MvRefGeometry) -> usize
     ensures { λ r. ⌜ r ≡ Tables.own g ⌝ }
 {
     cell_at(g, g.mi_row, g.mi_col)
+}
+
+// Place k of the block, counted from 0.
+pub(crate) fn spot_of(near: [[i8; 2]; 8], g: MvRefGeometry, k: usize) -> Spot
+    requires { ⌜ (Tables.gridOk g ≡ true) × (near ≡ getD Places.places (g .«mi_size») []) × (k < 8) ⌝ }
+    ensures { λ r. ⌜ r ≡ Tables.spot g k ⌝ }
+{
+    let row = g.mi_row + crate::places::step_of(near, k, 0);
+    let col = g.mi_col + crate::places::step_of(near, k, 1);
+    spot_at(g, row, col)
 }

@@ -2,9 +2,12 @@
 mod geometry;
 mod held;
 mod places;
+mod records;
 mod tables;
 
 pub use geometry::MvRefGeometry;
 pub use geometry::Spot;
 pub use geometry::grid_ok;
 pub use held::Held;
+pub use records::legal_records;
+pub use records::long_enough;

@@ -156,11 +156,11 @@ pub(crate) fn places_of(size: usize) -> [[i8; 2]; 8]
     MV_REF_BLOCKS[size]
 }
 
-pub(crate) fn step_of(places: [[i8; 2]; 8], k: usize, part: usize) -> i32
+pub(crate) fn step_of(near: [[i8; 2]; 8], k: usize, part: usize) -> i32
     requires { ⌜ (k < 8) × (part < 2) ⌝ }
-    ensures { λ r. ⌜ r ≡ getD (getD places k []) part (pos 0) ⌝ }
+    ensures { λ r. ⌜ r ≡ getD (getD near k []) part (pos 0) ⌝ }
 {
-    places[k][part] as i32
+    near[k][part] as i32
 }
 
 pub(crate) fn counter_of(mode: u8) -> usize
