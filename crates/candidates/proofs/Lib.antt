@@ -1,5 +1,6 @@
 pub mod Anywhere
 pub mod Fit
+pub mod Folds
 pub mod Grid
 pub mod Joined
 pub mod Read

@@ -1,18 +1,23 @@
 -- Internal: what the scans' code is proved against, between the definitions of Search and the loops. Assumes nothing.
 use Prim.Native.Nat.{ℕ, _+_, _*_, _^_, _≤_, _<_}
 use mathlib.Core.Path.{_≡_}
-use mathlib.Core.Bool.{Bool, true, cond}
-use mathlib.Core.List.{List}
+use mathlib.Core.Bool.{Bool, true, not, _&&_, cond}
+use mathlib.Core.List.{List, [], _∷_}
+use lib.Dec.{eqb}
 use lib.IntN.{ℤ}
 use lib.ListN.{length, getD}
 use lib.Signed.{mag}
 use Rattle.base.specs.Position.{toN}
-use Rattle.base.specs.Vector.{mv}
+use Rattle.base.specs.Number.{equal}
+use Rattle.base.specs.Vector.{sameMv}
 use Rattle.base.specs.declared.units.Mv.{Mv}
 use Rattle.candidates.specs.Places.{counters}
-use Rattle.candidates.specs.Tables.{Tables, spot}
+use Rattle.candidates.specs.Tables.{Tables, frameAt, mvAt, spot, own}
 use Rattle.candidates.specs.Records.{upTo, legalPair, legalSpot}
+use Rattle.candidates.specs.Offers.{run, isOther, turned}
+use Rattle.candidates.specs.Search.{ifInside}
 use Rattle.candidates.specs.declared.geometry.MvRefGeometry.{MvRefGeometry}
+use Rattle.candidates.specs.declared.scan.Ask.{Ask}
 
 -- a row and a column of cells that the frame has: their cell is small
 pub record Placed (g : MvRefGeometry) (y x : ℤ) : Type 0 where
@@ -34,11 +39,15 @@ pub record Part (x r : ℤ) : Type 0 where
   pub is : r ≡ x
   pub small : mag r < 2 ^ 15
 
--- v is the vector of two components of 16 bits
-pub record Vector (row col : ℤ) (v : Mv) : Type 0 where
-  pub is : v ≡ mv row col
-  pub rowSmall : mag (v .row .0) < 2 ^ 15
-  pub colSmall : mag (v .col .0) < 2 ^ 15
+-- a vector of 16-bit components
+pub record Narrow (v : Mv) : Type 0 where
+  pub row : mag (v .row .0) < 2 ^ 15
+  pub col : mag (v .col .0) < 2 ^ 15
+
+-- r is the vector v, which was read from a table of 16-bit components
+pub record Read (v r : Mv) : Type 0 where
+  pub is : r ≡ v
+  pub narrow : Narrow r
 
 -- tables of frames and vectors that hold n records
 pub record Pairs (n : ℕ) (fs vs : List ℤ) : Type 0 where
@@ -62,3 +71,29 @@ legalPlaces t g n = upTo n (λ (k : ℕ). legalSpot t (spot g k))
 -- the previous record is legal, if the previous frame is used
 unfoldable pub legalPrev : Bool → List ℤ → List ℤ → ℕ → Bool
 legalPrev usePrev fs vs i = cond usePrev (legalPair fs vs i) true
+
+-- ---- steps 2 and 3 in one: they differ in what they ask of a list
+
+-- the frame is the target in step 2, another one in step 3
+unfoldable pub fits : Ask → ℤ → Bool
+fits ask frame = cond (ask .other) (isOther frame (ask .target)) (equal frame (ask .target))
+
+-- list 0 leaves nothing for list 1
+unfoldable pub covered : List ℤ → List ℤ → Ask → ℕ → Bool
+covered frames mvs ask i = cond (ask .other) (sameMv (mvAt mvs i 0) (mvAt mvs i 1)) (equal (frameAt frames i 0) (ask .target))
+
+unfoldable pub asked : List ℤ → List ℤ → Ask → ℕ → ℕ → Bool
+asked frames mvs ask i list = fits ask (frameAt frames i list) && cond (eqb list 1) (not (covered frames mvs ask i)) true
+
+unfoldable pub offered : List ℤ → List ℤ → Ask → ℕ → ℕ → Mv
+offered frames mvs ask i list = turned (ask .«sign_bias») (frameAt frames i list) (ask .target) (mvAt mvs i list)
+
+-- what a list, a place and the previous record offer
+unfoldable pub listOf : List ℤ → List ℤ → Ask → ℕ → ℕ → List Mv
+listOf frames mvs ask i list = cond (asked frames mvs ask i list) (offered frames mvs ask i list ∷ []) []
+
+unfoldable pub placeOf : List ℤ → List ℤ → MvRefGeometry → Ask → ℕ → List Mv
+placeOf frames mvs g ask k = ifInside (λ (i : ℕ). run (listOf frames mvs ask i) 2 0) (spot g k)
+
+unfoldable pub prevOf : List ℤ → List ℤ → MvRefGeometry → Ask → Bool → List Mv
+prevOf frames mvs g ask usePrev = cond usePrev (run (listOf frames mvs ask (own g)) 2 0) []

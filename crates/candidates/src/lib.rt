@@ -3,6 +3,7 @@ mod geometry;
 mod held;
 mod places;
 mod records;
+mod scan;
 mod tables;
 
 pub use geometry::MvRefGeometry;

@@ -15,8 +15,8 @@ use Rattle.candidates.proofs.tables.vector_at.Statement.{statement}
 use Rattle.candidates.proofs.tables.vector_at.Tie as tie
 
 -- a component x that wide_part carried over as r
-read : (x r : ℤ) → mag x < 2 ^ 15 → Part (toZ w16 (ofZ w16 x)) r → Part x (toZ w32 (ofZ w32 r))
-read x r h p =
+carried : (x r : ℤ) → mag x < 2 ^ 15 → Part (toZ w16 (ofZ w16 x)) r → Part x (toZ w32 (ofZ w32 r))
+carried x r h p =
     let e = back {z = r} (record { sfits = omega (arith, p .small) }) in
     record { is = e ∙ p .is ∙ toZ-ofZ {w = w16} {z = x} (record { sfits = h }); small = rw e (p .small) }
 
@@ -48,9 +48,9 @@ returns c =
     let a = first .before .before .args in
     let x = getD (a .parts .now) (a .at) (pos 0) in
     let y = getD (a .parts .now) (a .at + 1) (pos 0) in
-    let row = read x (first .wide-part .result) (first .before .wide-part-arg .given) (first .wide-part .ensures) in
-    let col = read y (c .wide-part2 .result) (second .wide-part-arg2 .given) (c .wide-part2 .ensures) in
-    record { is = rw (row .is, col .is); rowSmall = row .small; colSmall = col .small }
+    let row = carried x (first .wide-part .result) (first .before .wide-part-arg .given) (first .wide-part .ensures) in
+    let col = carried y (c .wide-part2 .result) (second .wide-part-arg2 .given) (c .wide-part2 .ensures) in
+    record { is = rw (row .is, col .is); narrow = record { row = row .small; col = col .small } }
 
 pub vector-at-spec : {M : Type 1} → statement M
 vector-at-spec =
