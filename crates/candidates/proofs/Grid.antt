@@ -22,7 +22,7 @@ use Rattle.candidates.specs.declared.geometry.Spot.the-variants.{Out, Ce
 
 -- ---- signed tests, said of unsigned numbers
 
-le-toN : (a b : ℤ) → leZ a b ≡ true → toN a ≤ toN b
+pub le-toN : (a b : ℤ) → leZ a b ≡ true → toN a ≤ toN b
 le-toN (pos a) (pos b) e = leb-true a b e
 le-toN (pos a) (negsuc b) e = clash e
 le-toN (negsuc a) b e = omega arith

@@ -3,6 +3,7 @@ pub mod Fit
 pub mod Folds
 pub mod Grid
 pub mod Joined
+pub mod Numbers
 pub mod Read
 pub mod Rooms
 pub mod Steps

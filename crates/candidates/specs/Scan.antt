@@ -4,19 +4,21 @@ use mathlib.Core.Path.{_≡_}
 use mathlib.Core.Bool.{Bool, true, not, _&&_, cond}
 use mathlib.Core.List.{List, [], _∷_}
 use lib.Dec.{eqb}
-use lib.IntN.{ℤ}
+use lib.IntN.{ℤ, pos}
 use lib.ListN.{length, getD}
 use lib.Signed.{mag}
 use Rattle.base.specs.Position.{toN}
 use Rattle.base.specs.Number.{equal}
 use Rattle.base.specs.Vector.{sameMv}
 use Rattle.base.specs.declared.units.Mv.{Mv}
-use Rattle.candidates.specs.Places.{counters}
-use Rattle.candidates.specs.Tables.{Tables, frameAt, mvAt, spot, own}
+use Rattle.candidates.specs.Places.{counters, contexts}
+use Rattle.candidates.specs.Tables.{Tables, tables, frameAt, mvAt, subAt, spot, own}
 use Rattle.candidates.specs.Records.{upTo, legalPair, legalSpot}
-use Rattle.candidates.specs.Offers.{run, isOther, turned}
-use Rattle.candidates.specs.Search.{ifInside}
+use Rattle.candidates.specs.Offers.{run, ofTarget, subNumber, isOther, turned}
+use Rattle.candidates.specs.Search.{ifInside, counted}
 use Rattle.candidates.specs.declared.geometry.MvRefGeometry.{MvRefGeometry}
+use Rattle.candidates.specs.declared.geometry.Spot.{Spot}
+use Rattle.candidates.specs.declared.geometry.Spot.the-variants.{Cell}
 use Rattle.candidates.specs.declared.scan.Ask.{Ask}
 
 -- a row and a column of cells that the frame has: their cell is small
@@ -97,3 +99,40 @@ placeOf frames mvs g ask k = ifInside (λ (i : ℕ). run (listOf frames mvs ask 
 
 unfoldable pub prevOf : List ℤ → List ℤ → MvRefGeometry → Ask → Bool → List Mv
 prevOf frames mvs g ask usePrev = cond usePrev (run (listOf frames mvs ask (own g)) 2 0) []
+
+-- ---- step 1, by what its code is handed
+
+-- the column of idx_n_column_to_subblock
+unfoldable pub column : ℤ → ℕ
+column offset = cond (equal offset (pos 0)) 1 0
+
+-- r is the sub-block that a place offers, one of four
+pub record Numbered (block offset : ℤ) (r : ℕ) : Type 0 where
+  pub is : r ≡ subNumber block offset
+  pub small : r < 4
+
+-- tables of frames and sub-vectors that hold n records
+pub record Subs (n : ℕ) (fs ss : List ℤ) : Type 0 where
+  pub frames : 2 * n ≤ length fs
+  pub subs : 16 * n ≤ length ss
+
+-- they hold the record of a place, if it is inside; so does the table of modes
+unfoldable pub SubsAt : Spot → List ℤ → List ℤ → Type 0
+SubsAt s fs ss = (i : ℕ) → s ≡ Cell i → Subs (i + 1) fs ss
+
+unfoldable pub ModeAt : Spot → List ℕ → Type 0
+ModeAt s ms = (i : ℕ) → s ≡ Cell i → i < length ms
+
+unfoldable pub subRecord : List ℤ → List ℤ → ℤ → ℕ → ℕ → List Mv
+subRecord frames subs target number i = ofTarget frames target i (λ (list : ℕ). subAt subs i list number)
+
+unfoldable pub subPlaceAt : List ℤ → List ℤ → ℤ → ℕ → Spot → List Mv
+subPlaceAt frames subs target number s = ifInside (subRecord frames subs target number) s
+
+-- r is what a place counts
+pub record Tally (ms : List ℕ) (s : Spot) (r : ℕ) : Type 0 where
+  pub is : r ≡ counted (tables ms [] [] [] [] []) s
+  pub small : r ≤ 9
+
+unfoldable pub contextAt : List ℕ → Spot → Spot → ℕ
+contextAt ms one two = getD contexts (counted (tables ms [] [] [] [] []) one + counted (tables ms [] [] [] [] []) two) 0

@@ -4,6 +4,7 @@ mod held;
 mod places;
 mod records;
 mod scan;
+mod search;
 mod tables;
 
 pub use geometry::MvRefGeometry;
@@ -12,3 +13,4 @@ pub use geometry::grid_ok;
 pub use held::Held;
 pub use records::legal_records;
 pub use records::long_enough;
+pub use search::Found;

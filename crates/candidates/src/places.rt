@@ -1,11 +1,13 @@
 // The constant tables of the search, as the standard has them.
 ghost use mathlib.Core.Path.{_≡_};
 ghost use Prim.Native.Nat.{_<_, _≤_};
+ghost use mathlib.Core.Bool.{true};
 ghost use mathlib.Core.List.{[]};
-ghost use lib.IntN.{pos};
+ghost use lib.IntN.{pos, negsuc};
 ghost use lib.ListN.{getD};
+ghost use Rattle.base.specs.Number.{between};
 ghost use Rattle.candidates.specs.Places as Places;
-ghost use Rattle.candidates.specs.Scan.{Counted};
+ghost use Rattle.candidates.specs.Scan.{Counted, Numbered, column};
 
 // mv_ref_blocks: eight places for each of the thirteen block sizes, row before column.
 const MV_REF_BLOCKS: [[[i8; 2]; 8]; 13] = [
@@ -178,4 +180,23 @@ pub(crate) fn context_of(counter: usize) -> u8
     ensures { λ r. ⌜ r ≡ getD Places.contexts counter 0 ⌝ }
 {
     COUNTER_TO_CONTEXT[counter]
+}
+
+fn column_of(offset: i32) -> usize
+    ensures { λ r. ⌜ r ≡ column offset ⌝ }
+{
+    if offset == 0 { 1 } else { 0 }
+}
+
+// "for sub-block -1 number 3, else by IDX_N_COLUMN_TO_SUBBLOCK, second column when the place's column offset is 0"
+pub(crate) fn sub_number(block: i32, offset: i32) -> usize
+    requires { ⌜ between (negsuc 0) (pos 3) block ≡ true ⌝ }
+    ensures { λ r. ⌜ Numbered block offset r ⌝ }
+{
+    if block < 0 {
+        return 3;
+    }
+    let b = base::natural(block);
+    let c = column_of(offset);
+    IDX_N_COLUMN_TO_SUBBLOCK[b][c] as usize
 }
