@@ -1,6 +1,7 @@
 pub mod Answered
 pub mod Bd
 pub mod Bits
+pub mod Legal
 pub mod Lift
 pub mod Painted
 pub mod Table

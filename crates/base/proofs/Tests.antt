@@ -31,11 +31,11 @@ unfolding within
 within-both low high x e =
     let p = and-both (leb low x) (leb x high) e in (leb-true low x (p .0), leb-true x high (p .1))
 
--- a number in 0..m is no negative one, and at most m
-pub between-pos : (m : ℕ) (z : ℤ) → between (pos 0) (pos m) z ≡ true → T (nonNeg z) × (natAbs z ≤ m)
+-- a number in low..high, ends that are no negative ones, is none either, and at most high
+pub between-pos : (low high : ℕ) (z : ℤ) → between (pos low) (pos high) z ≡ true → T (nonNeg z) × (natAbs z ≤ high)
 unfolding between
-between-pos m (pos n) e = (tt, leb-true n m (and-right (leb 0 n) (leb n m) e))
-between-pos m (negsuc n) e = clash e
+between-pos low high (pos n) e = (tt, leb-true n high (and-right (leb low n) (leb n high) e))
+between-pos low high (negsuc n) e = clash e
 
 -- a number in -m..m is at most m from zero
 pub between-abs : (m : ℕ) (z : ℤ) → between (negsuc m) (pos (suc m)) z ≡ true → natAbs z ≤ suc m
@@ -67,3 +67,11 @@ not-below-zero (negsuc n) e = clash (sym e)
 pub pos-toN : (z : ℤ) → T (nonNeg z) → pos (toN z) ≡ z
 pos-toN (pos n) t = refl
 pos-toN (negsuc n) t = absurd t
+
+-- each of three tests joined, and of four; `&&` joins from the left
+pub and-three : (a b c : Bool) → (a && b && c) ≡ true → (a ≡ true) × ((b ≡ true) × (c ≡ true))
+and-three a b c e = let p = and-both a b (and-left (a && b) c e) in (p .0, (p .1, and-right (a && b) c e))
+
+pub and-four : (a b c d : Bool) → (a && b && c && d) ≡ true → (a ≡ true) × ((b ≡ true) × ((c ≡ true) × (d ≡ true)))
+and-four a b c d e =
+    let p = and-three a b c (and-left (a && b && c) d e) in (p .0, (p .1 .0, (p .1 .1, and-right (a && b && c) d e)))

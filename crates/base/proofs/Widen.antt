@@ -1,5 +1,5 @@
 -- For casts of signed numbers to 64 bits: a number that fits a narrower width is carried over unchanged. Assumes nothing.
-use mathlib.Core.Path.{_≡_, sym, subst}
+use mathlib.Core.Path.{_≡_}
 use lib.IntN.{ℤ}
 use lib.Dec.{T, leb}
 use mir.Syntax.{Width, w64}

@@ -1,7 +1,4 @@
 -- `base::clip3` meets its contract: each arm rewrites with the tests that led to it. Assumes nothing.
-use mathlib.Core.Path.{_≡_}
-use mathlib.Core.Bool.{true, false}
-use lib.Signed.{ltZ}
 use mir.Facts.{toZ-ofZ}
 use Rattle.base.specs.Number.{clip3}
 use Rattle.base.proofs.number.clip3.Statement.{statement}

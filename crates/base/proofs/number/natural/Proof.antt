@@ -1,10 +1,9 @@
 -- `base::natural` meets its contract: a number that is not below 0 keeps its value. Assumes nothing.
-use mathlib.Core.Path.{_≡_, sym}
+use mathlib.Core.Path.{sym}
 use native.Mathlib.Omega.{arith}
 use lib.Signed.{natAbs-le}
 use mir.Syntax.{w32}
 use mir.Facts.{toZ-ofZ}
-use Rattle.base.specs.Position.{toN}
 use Rattle.base.proofs.Tests.{below-zero, not-below-zero}
 use Rattle.base.proofs.number.natural.Statement.{statement}
 use Rattle.base.proofs.number.natural.Tie as tie

@@ -1,0 +1,42 @@
+-- `select_mv` meets its contract: refused by the table, or the chosen vector. Assumes nothing.
+use mathlib.Core.Path.{_≡_, sym, _∙_}
+use borrow.Author.Tests.{ne-eqb}
+use Rattle.base.specs.Answer.{answer}
+use Rattle.vectors.specs.Select.{selectMv, selectRows}
+use Rattle.vectors.proofs.Accepted.{SelectOk, select-ok}
+use Rattle.vectors.proofs.Parts.{legal-list, listOf-small}
+use borrow.Author.Needs.{needs}
+use Rattle.vectors.proofs.inter_mv.select_mv.Statement.{statement}
+use Rattle.vectors.proofs.inter_mv.select_mv.Tie as tie
+
+-- past the refusal the table answers 0
+zero : (c : tie.Else1) → let x = c .before .before .args in answer (selectRows (x .mvs) (x .plane) (x .size) (x .block) (x .sx) (x .sy)) ≡ 0
+zero c = sym (c .before .select-refusal .ensures) ∙ c .if1 .left
+
+accepted : (c : tie.Else1) → let x = c .before .before .args in SelectOk (x .mvs) (x .plane) (x .size) (x .block) (x .sx) (x .sy)
+accepted c = let x = c .before .before .args in select-ok (x .mvs) (x .plane) (x .size) (x .block) (x .sx) (x .sy) (zero c)
+
+select-refusal-requires : tie.Need-select-refusal-requires
+select-refusal-requires c κs = search needs
+
+returns : tie.Need-returns
+unfolding selectMv
+returns c = let e = sym (c .before .select-refusal .ensures) in rw (e, ne-eqb _ _ (c .if1 .taken))
+
+list-of-requires : tie.Need-list-of-requires
+list-of-requires c κs = search needs
+
+chosen-requires : tie.Need-chosen-requires
+chosen-requires c κs =
+    let e = c .before in
+    let x = e .before .before .args in
+    let a = accepted e in
+    rw (c .list-of .ensures .0) ((listOf-small (x .second), a .block), (a .partner, legal-list (x .mvs) (a .vectors) (x .second)))
+
+returns-2 : tie.Need-returns-2
+unfolding selectMv
+returns-2 c = rw (zero (c .before .before)) (cc (c .chosen .ensures, c .before .list-of .ensures .0))
+
+pub select-mv-spec : {M : Type 1} → statement M
+select-mv-spec =
+    tie.close (tie.spec select-refusal-requires returns list-of-requires chosen-requires returns-2)

@@ -1,0 +1,16 @@
+// Motion vectors: where a block looks, from the candidates of its neighbours to the position and the step in the reference.
+mod block_mvs;
+mod inter_mv;
+mod mv_ref;
+mod partition;
+
+pub use inter_mv::BlockGrid;
+pub use inter_mv::ClampedMv;
+pub use inter_mv::ScaleGeom;
+pub use inter_mv::ScaledMv;
+pub use inter_mv::SelectedMv;
+pub use inter_mv::clamp_mv;
+pub use inter_mv::scale_mv;
+pub use inter_mv::select_mv;
+pub use mv_ref::MvPair;
+pub use mv_ref::MvRefs;

@@ -1,0 +1,153 @@
+//! Files of test cases with the oracle's answers; README.md has their format byte by byte.
+
+mod best;
+mod block;
+mod bytes;
+mod clamp;
+mod edges;
+mod fixed;
+mod planes;
+mod predict;
+mod rng;
+mod row;
+mod scale;
+mod search;
+mod search_scenes;
+mod select;
+mod staged;
+
+#[cfg(test)]
+mod slips;
+#[cfg(test)]
+mod tests;
+
+use crate::terms::{BestArgs, ClampArgs, ScaleArgs, SelectArgs};
+use block::Block;
+use bytes::{Read, Reader, Writer};
+use fixed::Fixed;
+use predict::Predict;
+use rng::Rng;
+use row::RowRead;
+use search::{Append, Find};
+use staged::Staged;
+
+const MAGIC: &[u8; 4] = b"KNOB";
+
+#[derive(Clone, Copy, Debug, PartialEq, Eq)]
+pub enum Call {
+    SelectMv = 1,
+    ClampMv,
+    ScaleMv,
+    FindBestRefMvs,
+    FindMvRefs,
+    AppendSub8x8Mvs,
+    RowRead,
+    BlockInterPredict,
+    PredictInter,
+}
+
+impl Call {
+    pub const ALL: [Call; 9] = [
+        Call::SelectMv,
+        Call::ClampMv,
+        Call::ScaleMv,
+        Call::FindBestRefMvs,
+        Call::FindMvRefs,
+        Call::AppendSub8x8Mvs,
+        Call::RowRead,
+        Call::BlockInterPredict,
+        Call::PredictInter,
+    ];
+
+    pub fn name(self) -> &'static str {
+        match self {
+            Call::SelectMv => "select_mv",
+            Call::ClampMv => "clamp_mv",
+            Call::ScaleMv => "scale_mv",
+            Call::FindBestRefMvs => "find_best_ref_mvs",
+            Call::FindMvRefs => "find_mv_refs",
+            Call::AppendSub8x8Mvs => "append_sub8x8_mvs",
+            Call::RowRead => "row_read",
+            Call::BlockInterPredict => "block_inter_predict",
+            Call::PredictInter => "predict_inter",
+        }
+    }
+
+    pub fn named(name: &str) -> Option<Call> {
+        Call::ALL.into_iter().find(|call| call.name() == name)
+    }
+
+    /// Bytes of a record.
+    fn record(self) -> usize {
+        match self {
+            Call::SelectMv => SelectArgs::LENGTH,
+            Call::ClampMv => ClampArgs::LENGTH,
+            Call::ScaleMv => ScaleArgs::LENGTH,
+            Call::FindBestRefMvs => BestArgs::LENGTH,
+            Call::FindMvRefs => Find::LENGTH,
+            Call::AppendSub8x8Mvs => Append::LENGTH,
+            Call::RowRead => RowRead::LENGTH,
+            Call::BlockInterPredict => Block::LENGTH,
+            Call::PredictInter => Predict::LENGTH,
+        }
+    }
+}
+
+/// A file of `count` cases: the boundaries of document 01's table first, then cases by chance.
+pub fn make(call: Call, seed: u64, count: u32) -> Vec<u8> {
+    let rng = &mut Rng::new(seed, call as u64);
+    let n = count as usize;
+    let mut w = Writer::default();
+    w.0.extend(MAGIC);
+    w.u32(call as u32);
+    w.len(call.record());
+    w.u32(count);
+    match call {
+        Call::SelectMv => fixed::make::<SelectArgs>(rng, n, &mut w),
+        Call::ClampMv => fixed::make::<ClampArgs>(rng, n, &mut w),
+        Call::ScaleMv => fixed::make::<ScaleArgs>(rng, n, &mut w),
+        Call::FindBestRefMvs => fixed::make::<BestArgs>(rng, n, &mut w),
+        Call::FindMvRefs => staged::make::<Find>(rng, n, &mut w),
+        Call::AppendSub8x8Mvs => staged::make::<Append>(rng, n, &mut w),
+        Call::RowRead => staged::make::<RowRead>(rng, n, &mut w),
+        Call::BlockInterPredict => staged::make::<Block>(rng, n, &mut w),
+        Call::PredictInter => staged::make::<Predict>(rng, n, &mut w),
+    }
+    w.0
+}
+
+#[derive(Clone, Copy, Debug, PartialEq, Eq)]
+pub struct Asked {
+    pub cases: usize,
+    pub differences: usize,
+}
+
+/// Answers every case of a file anew and counts those whose stored answer differs.
+pub fn ask(call: Call, bytes: &[u8]) -> Read<Asked> {
+    let r = &mut Reader::new(bytes);
+    if r.take(4)? != MAGIC {
+        return Err("this is no file of cases".to_string());
+    }
+    if r.u32()? != call as u32 {
+        return Err(format!("this file is not of {}", call.name()));
+    }
+    if r.len()? != call.record() {
+        return Err("the records are of another length".to_string());
+    }
+    let cases = r.len()?;
+    let differences = match call {
+        Call::SelectMv => fixed::ask::<SelectArgs>(r, cases),
+        Call::ClampMv => fixed::ask::<ClampArgs>(r, cases),
+        Call::ScaleMv => fixed::ask::<ScaleArgs>(r, cases),
+        Call::FindBestRefMvs => fixed::ask::<BestArgs>(r, cases),
+        Call::FindMvRefs => staged::ask::<Find>(r, cases),
+        Call::AppendSub8x8Mvs => staged::ask::<Append>(r, cases),
+        Call::RowRead => staged::ask::<RowRead>(r, cases),
+        Call::BlockInterPredict => staged::ask::<Block>(r, cases),
+        Call::PredictInter => staged::ask::<Predict>(r, cases),
+    }?;
+    if !r.at_end() {
+        return Err(format!("the file goes on after byte {}", r.at()));
+    }
+    Ok(Asked { cases, differences })
+}
