@@ -7,3 +7,4 @@ pub mod Numbers
 pub mod Read
 pub mod Rooms
 pub mod Steps
+pub mod Whole

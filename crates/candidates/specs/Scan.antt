@@ -2,7 +2,7 @@
 use Prim.Native.Nat.{ℕ, _+_, _*_, _^_, _≤_, _<_}
 use mathlib.Core.Path.{_≡_}
 use mathlib.Core.Bool.{Bool, true, not, _&&_, cond}
-use mathlib.Core.List.{List, [], _∷_}
+use mathlib.Core.List.{List, [], _∷_, _++_}
 use lib.Dec.{eqb}
 use lib.IntN.{ℤ, pos}
 use lib.ListN.{length, getD}
@@ -15,11 +15,12 @@ use Rattle.candidates.specs.Places.{counters, contexts}
 use Rattle.candidates.specs.Tables.{Tables, tables, frameAt, mvAt, subAt, spot, own}
 use Rattle.candidates.specs.Records.{upTo, legalPair, legalSpot}
 use Rattle.candidates.specs.Offers.{run, ofTarget, subNumber, isOther, turned}
-use Rattle.candidates.specs.Search.{ifInside, counted}
+use Rattle.candidates.specs.Search.{ifInside, counted, candidates, context}
 use Rattle.candidates.specs.declared.geometry.MvRefGeometry.{MvRefGeometry}
 use Rattle.candidates.specs.declared.geometry.Spot.{Spot}
 use Rattle.candidates.specs.declared.geometry.Spot.the-variants.{Cell}
 use Rattle.candidates.specs.declared.scan.Ask.{Ask}
+use Rattle.candidates.specs.declared.find.Found.{Found}
 
 -- a row and a column of cells that the frame has: their cell is small
 pub record Placed (g : MvRefGeometry) (y x : ℤ) : Type 0 where
@@ -136,3 +137,19 @@ pub record Tally (ms : List ℕ) (s : Spot) (r : ℕ) : Type 0 where
 
 unfoldable pub contextAt : List ℕ → Spot → Spot → ℕ
 contextAt ms one two = getD contexts (counted (tables ms [] [] [] [] []) one + counted (tables ms [] [] [] [] []) two) 0
+
+-- the column offset of a place, of the size's eight places
+abbrev pub columnStep : List (List ℤ) → ℕ → ℤ
+columnStep near k = getD (getD near k []) 1 (pos 0)
+
+unfoldable pub nearestOf : List ℤ → List ℤ → List (List ℤ) → Spot → Spot → ℤ → ℤ → List Mv
+nearestOf frames subs near one two target block =
+    subPlaceAt frames subs target (subNumber block (columnStep near 0)) one
+    ++ subPlaceAt frames subs target (subNumber block (columnStep near 1)) two
+
+-- ---- the whole search
+
+unfoldable pub found : Tables → MvRefGeometry → ℤ → ℤ → List Bool → Bool → Found
+found t g target block bias usePrev =
+    let held = candidates t g target block bias usePrev in
+    record { first = held .first; second = held .second; context = context t g }

@@ -4,8 +4,8 @@ use borrow.Author.Needs.{needs}
 use Rattle.candidates.specs.Offers.{offers}
 use Rattle.candidates.specs.Scan.{SubsAt, subPlaceAt, subRecord}
 use Rattle.candidates.proofs.Fit.{back}
-use Rattle.candidates.proofs.search.sub_place.Statement.{statement}
-use Rattle.candidates.proofs.search.sub_place.Tie as tie
+use Rattle.candidates.proofs.find.sub_place.Statement.{statement}
+use Rattle.candidates.proofs.find.sub_place.Tie as tie
 
 enum-told : tie.Need-enum-told
 enum-told c = search needs

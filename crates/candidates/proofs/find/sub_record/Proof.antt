@@ -8,8 +8,8 @@ use Rattle.base.proofs.Bits.{equal-yes, equal-no}
 use Rattle.candidates.specs.Tables.{frameAt}
 use Rattle.candidates.specs.Offers.{offers, ofTarget}
 use Rattle.candidates.specs.Scan.{subRecord}
-use Rattle.candidates.proofs.search.sub_record.Statement.{statement}
-use Rattle.candidates.proofs.search.sub_record.Tie as tie
+use Rattle.candidates.proofs.find.sub_record.Statement.{statement}
+use Rattle.candidates.proofs.find.sub_record.Tie as tie
 
 yes-0 : (c : tie.Then1)
     → let a = c .before .before .args in equal (frameAt (a .frames .now) (a .i) 0) (a .target) ≡ true
