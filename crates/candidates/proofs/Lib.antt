@@ -1,4 +1,6 @@
+pub mod Alone
 pub mod Anywhere
+pub mod Contexts
 pub mod Fit
 pub mod Folds
 pub mod Grid
@@ -8,3 +10,4 @@ pub mod Read
 pub mod Rooms
 pub mod Steps
 pub mod Whole
+pub mod Within

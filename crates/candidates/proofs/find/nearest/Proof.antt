@@ -62,7 +62,8 @@ returns c =
     let two = of (subNumber (a .block) (columnStep (a .near) 1)) (a .two) in
     let first : q .sub-place .result ≡ offers none one =
     q .sub-place .ensures ∙ rw (target, n .none-held .ensures) (ap (λ (m : ℕ). offers none (of m (a .one))) (number-1 p)) in
-    c .sub-place2 .ensures ∙ rw (target, first) (ap (λ (m : ℕ). offers (offers none one) (of m (a .two))) (number-2 p)) ∙ sym (offers-append none one two)
+    c .sub-place2 .ensures
+    ∙ rw (target, first) (ap (λ (m : ℕ). offers (offers none one) (of m (a .two))) (number-2 p)) ∙ sym (offers-append none one two)
 
 pub nearest-spec : {M : Type 1} → statement M
 nearest-spec =

@@ -56,7 +56,8 @@ returns-2 c =
     let s = p .before .before in
     let minus = rw (back (s .fits .block)) at (p .before .if1 .left) in
     let column-is = q .column-of .ensures ∙ ap column (back (s .fits .offset)) in
-    record { is = rw (minus, ← natural-of (s .fits .block) (p .natural .ensures), ← column-is); small = entry-small (p .natural .result) (q .column-of .result) }
+    let number = natural-of (s .fits .block) (p .natural .ensures) in
+    record { is = rw (minus, ← number, ← column-is); small = entry-small (p .natural .result) (q .column-of .result) }
 
 pub sub-number-spec : {M : Type 1} → statement M
 sub-number-spec =
