@@ -12,7 +12,7 @@ use lib.ListN.{getD}
 use lib.Signed.{leZ, ltZ, nonNeg}
 use Rattle.base.specs.Number.{between}
 use Rattle.base.specs.Position.{toN}
-use Rattle.base.proofs.Tests.{clash, and-right, leZ-up}
+use Rattle.base.proofs.Tests.{clash, and-right, between-pos, leZ-up}
 use Rattle.candidates.proofs.Joined.{passed}
 use Rattle.candidates.specs.Places.{offset}
 use Rattle.candidates.specs.Tables.{gridOk, inside, cellAt, spotAt, spot, own}
@@ -55,6 +55,8 @@ pub record Grid (g : MvRefGeometry) : Type 0 where
   pub cols : toN (g .«mi_cols») ≤ 8192
   pub row : toN (g .«mi_row») < toN (g .«mi_rows»)
   pub col : toN (g .«mi_col») < toN (g .«mi_cols»)
+  pub rowsAbs : natAbs (g .«mi_rows») ≤ 8192
+  pub colsAbs : natAbs (g .«mi_cols») ≤ 8192
   pub rowAbs : natAbs (g .«mi_row») ≤ 8192
   pub colAbs : natAbs (g .«mi_col») ≤ 8192
   pub start : T (nonNeg (g .«mi_col_start»))
@@ -83,6 +85,8 @@ grid g e =
       cols = wide;
       row = above;
       col = omega arith;
+      rowsAbs = between-pos 1 8192 rows (test 0) .1;
+      colsAbs = between-pos 1 8192 cols (test 1) .1;
       rowAbs = omega (arith, abs-toN (g .«mi_row») top);
       colAbs = omega (arith, abs-toN (g .«mi_col») left);
       start = start;

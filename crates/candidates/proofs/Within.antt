@@ -114,7 +114,8 @@ record-tests t i = passed (leb (getD (t .modes) i 0) 13) (legalPair (t .frames) 
 
 module _ (t : Tables) (g : MvRefGeometry) (target : ℤ) where
   sub-all : (block : ℤ) (k : ℕ) (s : Spot) → legalSpot t s ≡ true
-      → All (ifInside (λ (i : ℕ). ofTarget (t .frames) target i (λ (list : ℕ). subAt (t .subs) i list (subNumber block (offset (g .«mi_size») k 1)))) s)
+      → All
+      (ifInside (λ (i : ℕ). ofTarget (t .frames) target i (λ (list : ℕ). subAt (t .subs) i list (subNumber block (offset (g .«mi_size») k 1)))) s)
   unfolding legalSpot
   sub-all block k Out e = nil
   sub-all block k (Cell i) e =

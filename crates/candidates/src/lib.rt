@@ -13,5 +13,7 @@ pub use geometry::MvRefGeometry;
 pub use geometry::Spot;
 pub use geometry::grid_ok;
 pub use held::Held;
+pub use held::add;
+pub use held::none_held;
 pub use records::legal_records;
 pub use records::long_enough;

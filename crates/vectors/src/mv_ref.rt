@@ -1,5 +1,17 @@
 // The standard's 6.5: the candidate search with its clamp, the sub-8x8 list, the best vectors.
+ghost use mathlib.Core.Bool.{true};
+ghost use mathlib.Core.Path.{_≡_};
+ghost use Prim.Native.Nat.{_≤_, _<_};
+ghost use lib.IntN.{natAbs};
+ghost use Rattle.base.specs.Answer.{answer};
+ghost use Rattle.base.specs.Vector as Vector;
+ghost use Rattle.candidates.specs.Tables as Tables;
+ghost use Rattle.vectors.specs.MvRef as MvRef;
+ghost use Rattle.vectors.specs.Rows as Rows;
+use base::Eighth;
 use base::Mv;
+use candidates::Held;
+use candidates::MvRefGeometry;
 
 // What the search finds: two candidates, and the context of the neighbours' modes.
 pub struct MvRefs {
@@ -14,4 +26,38 @@ pub struct MvPair {
     pub answer: u32,
     pub first: Mv,
     pub second: Mv,
+}
+
+fn zero_mv() -> Mv
+    ensures { λ r. ⌜ r ≡ Vector.zeroMv ⌝ }
+{
+    Mv {
+        row: Eighth(0),
+        col: Eighth(0),
+    }
+}
+
+// ---- the clamp, 6.5.3 to 6.5.5
+
+fn clamp_part(border: i32, total: i32, n: i32, first: i32, v: Eighth) -> Eighth
+    requires { ⌜ (natAbs border ≤ 1248) × (natAbs total ≤ 8192) ⌝ }
+    requires { ⌜ (natAbs n ≤ 8) × (natAbs first ≤ 8192) ⌝ }
+    ensures { λ r. ⌜ r ≡ Vector.eighth (MvRef.clampPart border total n first (v .0)) ⌝ }
+{
+    Eighth(base::clip3(
+        0 - 64 * first - border,
+        64 * (total - n - first) + border,
+        v.0,
+    ))
+}
+
+fn clamp_ref(border: i32, g: MvRefGeometry, v: Mv) -> Mv
+    requires { ⌜ (natAbs border ≤ 1248) × (g .«mi_size» ≤ 12) × (Tables.gridOk g ≡ true) ⌝ }
+    ensures { λ r. ⌜ r ≡ MvRef.clampRef border g v ⌝ }
+{
+    let high = crate::partition::num_8x8_high(g.mi_size);
+    let wide = crate::partition::num_8x8_wide(g.mi_size);
+    let row = clamp_part(border, g.mi_rows, high, g.mi_row, v.row);
+    let col = clamp_part(border, g.mi_cols, wide, g.mi_col, v.col);
+    Mv { row, col }
 }
