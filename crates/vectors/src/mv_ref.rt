@@ -61,3 +61,77 @@ fn clamp_ref(border: i32, g: MvRefGeometry, v: Mv) -> Mv
     let col = clamp_part(border, g.mi_cols, wide, g.mi_col, v.col);
     Mv { row, col }
 }
+
+// ---- refusals of the search
+
+// Rows 1, 2 and 3. `right` says what row 1 asks of the call.
+fn call_refusal(right: bool, g: MvRefGeometry, target: i32) -> u32
+    ensures { λ r. ⌜ r ≡ answer (Rows.callRows right g target) ⌝ }
+{
+    let grid = candidates::grid_ok(g);
+    let aimed = base::between(1, 3, target);
+    base::unless(
+        base::BLOCK,
+        right,
+        base::unless(base::GRID, grid, base::unless(base::TARGET, aimed, 0)),
+    )
+}
+
+// Rows 7 and 8: records are judged only in tables that are long enough.
+fn table_refusal(
+    modes: &[u8],
+    frames: &[i8],
+    mvs: &[i16],
+    subs: &[i16],
+    prev_frames: &[i8],
+    prev_mvs: &[i16],
+    g: MvRefGeometry,
+    use_prev: bool,
+) -> u32
+    requires { ⌜ (Tables.gridOk g ≡ true) × (g .«mi_size» ≤ 12) ⌝ }
+    ensures { λ r. ⌜
+        r ≡ answer (Rows.tableRows (Tables.tables (now (modes .entry)) (now (frames .entry)) (now (mvs .entry)) (now (subs .entry))
+        (now («prev_frames» .entry)) (now («prev_mvs» .entry))) g «use_prev»)
+        ⌝ }
+{
+    if !candidates::long_enough(modes, frames, mvs, subs, prev_frames, prev_mvs, g, use_prev) {
+        return base::SHORT;
+    }
+    let legal = candidates::legal_records(
+        modes,
+        frames,
+        mvs,
+        subs,
+        prev_frames,
+        prev_mvs,
+        g,
+        use_prev,
+    );
+    base::unless(base::RECORD, legal, 0)
+}
+
+// All rows of the search: the tables are asked only where the call is in order.
+fn search_refusal(
+    modes: &[u8],
+    frames: &[i8],
+    mvs: &[i16],
+    subs: &[i16],
+    prev_frames: &[i8],
+    prev_mvs: &[i16],
+    g: MvRefGeometry,
+    target: i32,
+    right: bool,
+    use_prev: bool,
+) -> u32
+    requires { ⌜ Rows.Sized right g ⌝ }
+    ensures { λ r. ⌜
+        r ≡ answer (Rows.searchRows (Tables.tables (now (modes .entry)) (now (frames .entry)) (now (mvs .entry)) (now (subs .entry))
+        (now («prev_frames» .entry)) (now («prev_mvs» .entry))) g target right «use_prev»)
+        ⌝ }
+{
+    let no = call_refusal(right, g, target);
+    if no != 0 {
+        return no;
+    }
+    table_refusal(modes, frames, mvs, subs, prev_frames, prev_mvs, g, use_prev)
+}
