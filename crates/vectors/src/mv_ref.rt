@@ -135,3 +135,68 @@ fn search_refusal(
     }
     table_refusal(modes, frames, mvs, subs, prev_frames, prev_mvs, g, use_prev)
 }
+
+// ---- find_mv_refs, 6.5.1
+
+pub fn find_mv_refs(
+    modes: &[u8],
+    frames: &[i8],
+    mvs: &[i16],
+    subs: &[i16],
+    prev_frames: &[i8],
+    prev_mvs: &[i16],
+    geometry: MvRefGeometry,
+    target: i32,
+    block: i32,
+    sign_bias: [bool; 4],
+    use_prev: bool,
+) -> MvRefs
+    ensures { λ r. ⌜
+        r ≡ MvRef.findMvRefs (Tables.tables (now (modes .entry)) (now (frames .entry)) (now (mvs .entry)) (now (subs .entry))
+        (now («prev_frames» .entry)) (now («prev_mvs» .entry))) geometry target block «sign_bias» «use_prev»
+        ⌝ }
+{
+    let right = (geometry.mi_size <= 12) & base::between(-1, 3, block);
+    let no = search_refusal(
+        modes,
+        frames,
+        mvs,
+        subs,
+        prev_frames,
+        prev_mvs,
+        geometry,
+        target,
+        right,
+        use_prev,
+    );
+    if no != 0 {
+        let zero = zero_mv();
+        return MvRefs {
+            answer: no,
+            first: zero,
+            second: zero,
+            context: 0,
+        };
+    }
+    let found = candidates::search(
+        modes,
+        frames,
+        mvs,
+        subs,
+        prev_frames,
+        prev_mvs,
+        geometry,
+        target,
+        block,
+        sign_bias,
+        use_prev,
+    );
+    let first = clamp_ref(128, geometry, found.first);
+    let second = clamp_ref(128, geometry, found.second);
+    MvRefs {
+        answer: 0,
+        first,
+        second,
+        context: found.context,
+    }
+}
