@@ -3,3 +3,4 @@ pub mod Calls
 pub mod Parts
 pub mod Scaled
 pub mod Starred
+pub mod Table

@@ -5,3 +5,4 @@ pub mod Clamp
 pub mod Scale
 pub mod MvRef
 pub mod Starred
+pub mod Rows
