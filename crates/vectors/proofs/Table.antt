@@ -1,20 +1,23 @@
 -- A table of tests in two parts: a number that the first part gives is the whole's, and where it gives none the second part answers. What
 -- passed where the search's table gives none. Assumes nothing.
 use mathlib.Core.Path.{_≡_, refl, sym, _∙_}
-use mathlib.Core.Bool.{Bool, true, false}
+use mathlib.Core.Bool.{Bool, true, false, _&&_}
 use mathlib.Core.List.{List, [], _∷_, _++_}
-use Prim.Native.Nat.{ℕ}
+use Prim.Native.Nat.{ℕ, _≤_}
 use native.Mathlib.Omega.{arith}
-use borrow.Author.Tests.{ltb-true}
-use lib.Dec.{ltb}
+use borrow.Author.Tests.{leb-true, ltb-true}
+use lib.Dec.{leb, ltb}
 use lib.IntN.{ℤ, pos}
 use Rattle.base.specs.Answer.{Row, unless, answer, rises}
 use Rattle.base.specs.Number.{between}
+use Rattle.base.specs.Vector.{legalMv}
+use Rattle.base.specs.declared.units.Mv.{Mv}
 use Rattle.base.proofs.Answered.{unless-zero}
 use Rattle.base.proofs.Tests.{and-left, and-right}
 use Rattle.candidates.specs.Tables.{Tables, gridOk, longEnough}
 use Rattle.candidates.specs.Records.{legalRecords}
 use Rattle.candidates.specs.declared.geometry.MvRefGeometry.{MvRefGeometry}
+use Rattle.vectors.specs.MvRef.{bestRows}
 use Rattle.vectors.specs.Rows.{callRows, searchRows}
 
 unless-same : (n : ℕ) (t : Bool) (a b : ℕ) → (unless n t a ≡ 0 → ⊥) → ((a ≡ 0 → ⊥) → b ≡ a) → unless n t b ≡ unless n t a
@@ -70,4 +73,24 @@ search-ok t g target right usePrev e =
       call = record { block = p .0; grid = q .0; aimed = r .0 };
       long = s .0;
       legal = unless-zero 7 (legalRecords t g usePrev) 0 (s .1) .0;
+    }
+
+-- ---- the table of the best vectors
+
+pub record BestOk (g : MvRefGeometry) (a b : Mv) : Type 0 where
+  pub size : g .«mi_size» ≤ 12
+  pub grid : gridOk g ≡ true
+  pub first : legalMv a ≡ true
+  pub second : legalMv b ≡ true
+
+pub best-ok : (g : MvRefGeometry) (a b : Mv) → answer (bestRows g a b) ≡ 0 → BestOk g a b
+best-ok g a b e =
+    let p = unless-zero 0 (leb (g .«mi_size») 12) _ e in
+    let q = unless-zero 1 (gridOk g) _ (p .1) in
+    let both = unless-zero 8 (legalMv a && legalMv b) 0 (q .1) .0 in
+    record {
+      size = leb-true (g .«mi_size») 12 (p .0);
+      grid = q .0;
+      first = and-left (legalMv a) (legalMv b) both;
+      second = and-right (legalMv a) (legalMv b) both;
     }

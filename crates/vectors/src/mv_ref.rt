@@ -1,11 +1,14 @@
 // The standard's 6.5: the candidate search with its clamp, the sub-8x8 list, the best vectors.
 ghost use mathlib.Core.Bool.{true};
+ghost use mathlib.Core.List.{[], _∷_};
 ghost use mathlib.Core.Path.{_≡_};
 ghost use Prim.Native.Nat.{_≤_, _<_};
+ghost use lib.Dec.{ltb};
 ghost use lib.IntN.{natAbs};
 ghost use Rattle.base.specs.Answer.{answer};
 ghost use Rattle.base.specs.Vector as Vector;
 ghost use Rattle.candidates.specs.Tables as Tables;
+ghost use Rattle.candidates.specs.Offers as Offers;
 ghost use Rattle.vectors.specs.MvRef as MvRef;
 ghost use Rattle.vectors.specs.Rows as Rows;
 use base::Eighth;
@@ -199,4 +202,132 @@ pub fn find_mv_refs(
         second,
         context: found.context,
     }
+}
+
+// ---- find_best_ref_mvs, 6.5.12
+
+// "moves odd components one towards zero"
+fn evened(x: Eighth) -> Eighth
+    requires { ⌜ Vector.legal x ≡ true ⌝ }
+    ensures { λ r. ⌜ r ≡ Vector.eighth (MvRef.evened (x .0)) ⌝ }
+{
+    Eighth(x.0 / 2 * 2)
+}
+
+// The standard's use_mv_hp: absolutely below 64.
+fn is_near(x: Eighth) -> bool
+    ensures { λ r. ⌜ r ≡ ltb (natAbs (x .0)) 64 ⌝ }
+{
+    base::between(-63, 63, x.0)
+}
+
+fn lowered(allowed: bool, v: Mv) -> Mv
+    requires { ⌜ Vector.legalMv v ≡ true ⌝ }
+    ensures { λ r. ⌜ r ≡ MvRef.lowered allowed v ⌝ }
+{
+    let row = is_near(v.row);
+    let col = is_near(v.col);
+    if allowed & row & col {
+        return v;
+    }
+    let down = evened(v.row);
+    let across = evened(v.col);
+    Mv {
+        row: down,
+        col: across,
+    }
+}
+
+fn best_refusal(g: MvRefGeometry, first: Mv, second: Mv) -> u32
+    ensures { λ r. ⌜ r ≡ answer (MvRef.bestRows g first second) ⌝ }
+{
+    let size = g.mi_size <= 12;
+    let grid = candidates::grid_ok(g);
+    let a = base::is_legal_mv(first);
+    let b = base::is_legal_mv(second);
+    base::unless(
+        base::BLOCK,
+        size,
+        base::unless(base::GRID, grid, base::unless(base::VECTOR, a & b, 0)),
+    )
+}
+
+pub fn find_best_ref_mvs(
+    geometry: MvRefGeometry,
+    first: Mv,
+    second: Mv,
+    high_precision: bool,
+) -> MvPair
+    ensures { λ r. ⌜ r ≡ MvRef.bestMvs geometry first second «high_precision» ⌝ }
+{
+    let no = best_refusal(geometry, first, second);
+    if no != 0 {
+        let zero = zero_mv();
+        return MvPair {
+            answer: no,
+            first: zero,
+            second: zero,
+        };
+    }
+    let nearest = clamp_ref(1248, geometry, lowered(high_precision, first));
+    let near = clamp_ref(1248, geometry, lowered(high_precision, second));
+    MvPair {
+        answer: 0,
+        first: nearest,
+        second: near,
+    }
+}
+
+// ---- append_sub8x8_mvs, 6.5.14
+
+fn sub_mv(m: [[Eighth; 2]; 4], b: usize) -> Mv
+    requires { ⌜ b < 4 ⌝ }
+    ensures { λ r. ⌜ r ≡ MvRef.subMv m b ⌝ }
+{
+    let row = m[b][0];
+    let col = m[b][1];
+    Mv { row, col }
+}
+
+fn is_legal_four(m: [[Eighth; 2]; 4]) -> bool
+    ensures { λ r. ⌜ r ≡ MvRef.legalFour m ⌝ }
+{
+    let a = base::is_legal_mv(sub_mv(m, 0));
+    let b = base::is_legal_mv(sub_mv(m, 1));
+    let c = base::is_legal_mv(sub_mv(m, 2));
+    let d = base::is_legal_mv(sub_mv(m, 3));
+    a & b & c & d
+}
+
+// The search's pair, offered after what is held.
+fn offered(h: Held, first: Mv, second: Mv) -> Held
+    ensures { λ r. ⌜ r ≡ Offers.offers h (first ∷ second ∷ []) ⌝ }
+{
+    candidates::add(candidates::add(h, first), second)
+}
+
+// "1 and 2 take block vector 0 first, 3 takes block vector 2, then 1, then 0"
+fn before(block: usize, m: [[Eighth; 2]; 4]) -> Held
+    ensures { λ r. ⌜ r ≡ Offers.offers Offers.none (MvRef.before block m []) ⌝ }
+{
+    let none = candidates::none_held();
+    if block <= 2 {
+        return candidates::add(none, sub_mv(m, 0));
+    }
+    let two = candidates::add(none, sub_mv(m, 2));
+    let one = candidates::add(two, sub_mv(m, 1));
+    candidates::add(one, sub_mv(m, 0))
+}
+
+fn sub_list(block: usize, m: [[Eighth; 2]; 4], first: Mv, second: Mv) -> Held
+    ensures { λ r. ⌜ r ≡ MvRef.subList block m first second ⌝ }
+{
+    if block == 0 {
+        return Held {
+            count: 2,
+            first,
+            second,
+        };
+    }
+    offered(before(block, m), first, second)
 }
