@@ -28,7 +28,7 @@ fn parts(v: Mv) -> [Eighth; 2]
     [row, col]
 }
 
-fn list(mvs: [Mv; 4]) -> [[Eighth; 2]; 4]
+pub(crate) fn list(mvs: [Mv; 4]) -> [[Eighth; 2]; 4]
     ensures { λ r. ⌜ r ≡ InC.list mvs ⌝ }
 {
     let a = parts(mvs[0]);

@@ -17,6 +17,7 @@ use candidates::Held;
 use candidates::MvRefGeometry;
 
 // What the search finds: two candidates, and the context of the neighbours' modes.
+#[repr(C)]
 pub struct MvRefs {
     pub answer: u32,
     pub first: Mv,
@@ -25,6 +26,7 @@ pub struct MvRefs {
 }
 
 // Two vectors, the nearest and the near one.
+#[repr(C)]
 pub struct MvPair {
     pub answer: u32,
     pub first: Mv,
