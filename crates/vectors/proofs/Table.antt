@@ -8,16 +8,17 @@ use native.Mathlib.Omega.{arith}
 use borrow.Author.Tests.{leb-true, ltb-true}
 use lib.Dec.{leb, ltb}
 use lib.IntN.{ℤ, pos}
-use Rattle.base.specs.Answer.{Row, unless, answer, rises}
+use Rattle.base.specs.Answer.{Row, row, unless, answer, rises, VECTOR}
 use Rattle.base.specs.Number.{between}
 use Rattle.base.specs.Vector.{legalMv}
+use Rattle.base.specs.declared.units.Eighth.{Eighth}
 use Rattle.base.specs.declared.units.Mv.{Mv}
 use Rattle.base.proofs.Answered.{unless-zero}
 use Rattle.base.proofs.Tests.{and-left, and-right}
 use Rattle.candidates.specs.Tables.{Tables, gridOk, longEnough}
 use Rattle.candidates.specs.Records.{legalRecords}
 use Rattle.candidates.specs.declared.geometry.MvRefGeometry.{MvRefGeometry}
-use Rattle.vectors.specs.MvRef.{bestRows}
+use Rattle.vectors.specs.MvRef.{bestRows, legalFour, appendRows}
 use Rattle.vectors.specs.Rows.{callRows, searchRows}
 
 unless-same : (n : ℕ) (t : Bool) (a b : ℕ) → (unless n t a ≡ 0 → ⊥) → ((a ≡ 0 → ⊥) → b ≡ a) → unless n t b ≡ unless n t a
@@ -93,4 +94,41 @@ best-ok g a b e =
       grid = q .0;
       first = and-left (legalMv a) (legalMv b) both;
       second = and-right (legalMv a) (legalMv b) both;
+    }
+
+-- ---- the table of the sub-8x8 list
+
+first-zero : (m : ℕ) (rows more : List Row) → rises m rows ≡ true → answer (rows ++ more) ≡ 0 → answer rows ≡ 0
+unfolding unless
+first-zero m [] more h e = refl
+first-zero m (r ∷ rows) more h e =
+    let above = and-left (ltb m (r .number)) (rises (r .number) rows) h in
+    let later = and-right (ltb m (r .number)) (rises (r .number) rows) h in
+    let p = unless-rest m (r .number) (r .passes) (answer (rows ++ more)) above e in
+    rw (p .0) (first-zero (r .number) rows more later (p .1))
+
+pub record AppendOk (t : Tables) (g : MvRefGeometry) (b : ℕ) (m : List (List Eighth)) (usePrev : Bool) : Type 0 where
+  pub size : g .«mi_size» ≤ 12
+  pub block : leb b 3 ≡ true
+  pub grid : gridOk g ≡ true
+  pub long : longEnough t g usePrev ≡ true
+  pub legal : legalRecords t g usePrev ≡ true
+  pub four : legalFour m ≡ true
+
+pub append-ok : (t : Tables) (g : MvRefGeometry) (target : ℤ) (b : ℕ) (m : List (List Eighth)) (usePrev : Bool)
+    → answer (appendRows t g target b m usePrev) ≡ 0 → AppendOk t g b m usePrev
+append-ok t g target b m usePrev e =
+    let right = leb (g .«mi_size») 12 && leb b 3 in
+    let rows = searchRows t g target right usePrev in
+    let last = row VECTOR (legalFour m) ∷ [] in
+    let none = first-zero 0 rows last refl e in
+    let p = search-ok t g target right usePrev none in
+    let four = sym (accepted-more 0 rows last refl none) ∙ e in
+    record {
+      size = leb-true (g .«mi_size») 12 (and-left (leb (g .«mi_size») 12) (leb b 3) (p .call .block));
+      block = and-right (leb (g .«mi_size») 12) (leb b 3) (p .call .block);
+      grid = p .call .grid;
+      long = p .long;
+      legal = p .legal;
+      four = unless-zero 8 (legalFour m) 0 four .0;
     }

@@ -14,5 +14,6 @@ pub use inter_mv::scale_mv;
 pub use inter_mv::select_mv;
 pub use mv_ref::MvPair;
 pub use mv_ref::MvRefs;
+pub use mv_ref::append_sub8x8_mvs;
 pub use mv_ref::find_best_ref_mvs;
 pub use mv_ref::find_mv_refs;

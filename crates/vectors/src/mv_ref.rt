@@ -333,3 +333,107 @@ fn sub_list(block: usize, m: [[Eighth; 2]; 4], first: Mv, second: Mv) -> Held
     }
     offered(before(block, m), first, second)
 }
+
+// The rows of the search, then row 9.
+fn append_refusal(
+    modes: &[u8],
+    frames: &[i8],
+    mvs: &[i16],
+    subs: &[i16],
+    prev_frames: &[i8],
+    prev_mvs: &[i16],
+    g: MvRefGeometry,
+    block: usize,
+    target: i32,
+    m: [[Eighth; 2]; 4],
+    use_prev: bool,
+) -> u32
+    ensures { λ r. ⌜
+        r ≡ answer (MvRef.appendRows (Tables.tables (now (modes .entry)) (now (frames .entry)) (now (mvs .entry)) (now (subs .entry))
+        (now («prev_frames» .entry)) (now («prev_mvs» .entry))) g target block m «use_prev»)
+        ⌝ }
+{
+    let right = (g.mi_size <= 12) & (block <= 3);
+    let no = search_refusal(
+        modes,
+        frames,
+        mvs,
+        subs,
+        prev_frames,
+        prev_mvs,
+        g,
+        target,
+        right,
+        use_prev,
+    );
+    if no != 0 {
+        return no;
+    }
+    let four = is_legal_four(m);
+    base::unless(base::VECTOR, four, 0)
+}
+
+pub fn append_sub8x8_mvs(
+    modes: &[u8],
+    frames: &[i8],
+    mvs: &[i16],
+    subs: &[i16],
+    prev_frames: &[i8],
+    prev_mvs: &[i16],
+    geometry: MvRefGeometry,
+    block: usize,
+    target: i32,
+    block_mvs: [[Eighth; 2]; 4],
+    sign_bias: [bool; 4],
+    use_prev: bool,
+) -> MvPair
+    ensures { λ r. ⌜
+        r ≡ MvRef.appendMvs (Tables.tables (now (modes .entry)) (now (frames .entry)) (now (mvs .entry)) (now (subs .entry))
+        (now («prev_frames» .entry)) (now («prev_mvs» .entry))) geometry target block «block_mvs» «sign_bias» «use_prev»
+        ⌝ }
+{
+    let no = append_refusal(
+        modes,
+        frames,
+        mvs,
+        subs,
+        prev_frames,
+        prev_mvs,
+        geometry,
+        block,
+        target,
+        block_mvs,
+        use_prev,
+    );
+    if no != 0 {
+        let zero = zero_mv();
+        return MvPair {
+            answer: no,
+            first: zero,
+            second: zero,
+        };
+    }
+    let found = candidates::search(
+        modes,
+        frames,
+        mvs,
+        subs,
+        prev_frames,
+        prev_mvs,
+        geometry,
+        target,
+        block as i32,
+        sign_bias,
+        use_prev,
+    );
+    let first = clamp_ref(128, geometry, found.first);
+    let second = clamp_ref(128, geometry, found.second);
+    let list = sub_list(block, block_mvs, first, second);
+    let nearest = list.first;
+    let near = list.second;
+    MvPair {
+        answer: 0,
+        first: nearest,
+        second: near,
+    }
+}
