@@ -1,0 +1,13 @@
+pub mod Alone
+pub mod Anywhere
+pub mod Contexts
+pub mod Fit
+pub mod Folds
+pub mod Grid
+pub mod Joined
+pub mod Numbers
+pub mod Read
+pub mod Rooms
+pub mod Steps
+pub mod Whole
+pub mod Within

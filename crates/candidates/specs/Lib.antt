@@ -3,3 +3,4 @@ pub mod Tables
 pub mod Records
 pub mod Offers
 pub mod Search
+pub mod Scan

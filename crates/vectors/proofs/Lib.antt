@@ -1,3 +1,4 @@
 pub mod Accepted
 pub mod Parts
 pub mod Scaled
+pub mod Table

@@ -4,3 +4,4 @@ pub mod Select
 pub mod Clamp
 pub mod Scale
 pub mod MvRef
+pub mod Rows

@@ -14,3 +14,4 @@ pub use inter_mv::scale_mv;
 pub use inter_mv::select_mv;
 pub use mv_ref::MvPair;
 pub use mv_ref::MvRefs;
+pub use mv_ref::find_mv_refs;
