@@ -9,6 +9,7 @@ ghost use Rattle.candidates.specs.Tables as Tables;
 ghost use Rattle.candidates.specs.Scan.{Placed};
 
 // The block, the frame and the block's tile, as the caller counts them.
+#[repr(C)]
 pub struct MvRefGeometry {
     pub mi_row: i32,
     pub mi_col: i32,

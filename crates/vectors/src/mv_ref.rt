@@ -14,6 +14,7 @@ use candidates::Held;
 use candidates::MvRefGeometry;
 
 // What the search finds: two candidates, and the context of the neighbours' modes.
+#[repr(C)]
 pub struct MvRefs {
     pub answer: u32,
     pub first: Mv,
@@ -22,6 +23,7 @@ pub struct MvRefs {
 }
 
 // Two vectors, the nearest and the near one.
+#[repr(C)]
 pub struct MvPair {
     pub answer: u32,
     pub first: Mv,
