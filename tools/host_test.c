@@ -85,7 +85,7 @@ static void find_mv_refs(void)
     check("search: first row", r.first.row, 24);
     check("search: first column", r.first.col, -40);
     check("search: second row", r.second.row, 0);
-    check("search: context", r.context, 2);
+    check("search: context", r.context, 3); /* one NEWMV: counter 1, context NEW_PLUS_NON_INTRA */
     frames[0] = 2;
     bias.frame[2] = true;
     r = knobspindle_find_mv_refs(modes, 2, frames, 4, mvs, 8, subs, 32, NULL, 0, NULL, 0, g, 1, -1, bias, false);
