@@ -97,6 +97,25 @@ typedef struct {
     size_t first, samples;
 } knobspindle_row_place;
 
+/* Where a block, its frame and its tile (columns tile start to tile end - 1) stand, in cells of 8 by 8 luma samples. */
+typedef struct {
+    int32_t mi_row, mi_col, mi_rows, mi_cols;
+    size_t mi_size;
+    int32_t mi_col_start, mi_col_end;
+} knobspindle_mv_ref_geometry;
+
+/* The sign bias of reference frames 0..3. */
+typedef struct {
+    bool frame[4];
+} knobspindle_sign_bias;
+
+/* What the candidate search finds. */
+typedef struct {
+    uint32_t answer;
+    knobspindle_mv first, second;
+    uint8_t context;
+} knobspindle_mv_refs;
+
 /* Numbers of working room that knobspindle_block_inter_predict asks for. */
 #define KNOBSPINDLE_ROOM 8576
 
@@ -111,6 +130,16 @@ knobspindle_clamped_mv knobspindle_clamp_mv(knobspindle_block_grid grid, knobspi
 
 /* Where a clamped vector leads from sample (x, y) of the plane, and the steps. Answers 1, 5, 6 and 9 (components -65534..65534). */
 knobspindle_scaled_mv knobspindle_scale_mv(knobspindle_scale_geom geom, size_t plane, int32_t x, int32_t y, knobspindle_plane_mv mv);
+
+/* The candidate search for a target reference frame 1..3: block is -1 for a whole block, else its sub-block 0..3. The tables lie by cells
+ * of the frame, i = row x mi_cols + column, n = mi_rows x mi_cols: modes n; frames 2n, at 2i + list; mvs 4n, row before column; subs 16n, at
+ * ((2i + list) x 4 + sub-block) x 2; prev_frames and prev_mvs as frames and mvs, looked at only where use_prev is true. Lengths count
+ * numbers; longer tables are taken. Answers 1, 2, 3, 7 and 8. */
+knobspindle_mv_refs knobspindle_find_mv_refs(const uint8_t *modes, size_t modes_len, const int8_t *frames, size_t frames_len,
+                                             const int16_t *mvs, size_t mvs_len, const int16_t *subs, size_t subs_len,
+                                             const int8_t *prev_frames, size_t prev_frames_len, const int16_t *prev_mvs,
+                                             size_t prev_mvs_len, knobspindle_mv_ref_geometry geometry, int32_t target, int32_t block,
+                                             knobspindle_sign_bias sign_bias, bool use_prev);
 
 /* Where row y of a plane in two bands stands. Lengths count samples. Answers 5, 6 and 7. */
 knobspindle_row_place knobspindle_row_read(const uint16_t *upper, size_t upper_len, const uint16_t *lower, size_t lower_len,

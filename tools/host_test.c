@@ -72,6 +72,33 @@ static void scale_mv(void)
     check("scale, reference too large: answer", r.answer, KNOBSPINDLE_SIZE);
 }
 
+static void find_mv_refs(void)
+{
+    /* Two cells in a row; the block is the second, and its left neighbour alone is inside. Mode 13 is NEWMV, frame 1 the target. */
+    static uint8_t modes[2] = {13, 0};
+    static int8_t frames[4] = {1, 0, 0, 0};
+    static const int16_t mvs[8] = {24, -40}, subs[32] = {24, -40, 24, -40, 24, -40, 24, -40};
+    knobspindle_mv_ref_geometry g = {.mi_row = 0, .mi_col = 1, .mi_rows = 1, .mi_cols = 2, .mi_size = 3, .mi_col_end = 2};
+    knobspindle_sign_bias bias = {{false, false, false, false}};
+    knobspindle_mv_refs r = knobspindle_find_mv_refs(modes, 2, frames, 4, mvs, 8, subs, 32, NULL, 0, NULL, 0, g, 1, -1, bias, false);
+    check("search: answer", r.answer, KNOBSPINDLE_ACCEPTED);
+    check("search: first row", r.first.row, 24);
+    check("search: first column", r.first.col, -40);
+    check("search: second row", r.second.row, 0);
+    check("search: context", r.context, 3); /* one NEWMV: counter 1, context NEW_PLUS_NON_INTRA */
+    frames[0] = 2;
+    bias.frame[2] = true;
+    r = knobspindle_find_mv_refs(modes, 2, frames, 4, mvs, 8, subs, 32, NULL, 0, NULL, 0, g, 1, -1, bias, false);
+    check("search, other side: first row", r.first.row, -24);
+    r = knobspindle_find_mv_refs(modes, 2, frames, 4, mvs, 8, subs, 32, NULL, 0, NULL, 0, g, 1, -1, bias, true);
+    check("search, no previous tables: answer", r.answer, KNOBSPINDLE_SHORT);
+    modes[0] = 14;
+    r = knobspindle_find_mv_refs(modes, 2, frames, 4, mvs, 8, subs, 32, NULL, 0, NULL, 0, g, 1, -1, bias, false);
+    check("search, mode 14: answer", r.answer, KNOBSPINDLE_RECORD);
+    r = knobspindle_find_mv_refs(modes, 2, frames, 4, mvs, 8, subs, 32, NULL, 0, NULL, 0, g, 0, -1, bias, false);
+    check("search, target 0: answer", r.answer, KNOBSPINDLE_TARGET);
+}
+
 static void row_read(void)
 {
     static const uint16_t upper[8], lower[7];
@@ -134,6 +161,7 @@ int main(void)
     select_mv();
     clamp_mv();
     scale_mv();
+    find_mv_refs();
     row_read();
     block_inter_predict();
     printf("host: %d checks, %d failed\n", checks, failed);

@@ -34,6 +34,17 @@ struct scale {
     bool sub_x, sub_y;
 };
 
+struct search {
+    int32_t mi_row, mi_col, mi_rows, mi_cols, tile_start, tile_end, target, block;
+    size_t size;
+    bool sign_bias[4], use_prev;
+    const uint8_t *modes;
+    const int8_t *frames;
+    const int16_t *vectors, *sub_vectors;
+    const int8_t *prev_frames;
+    const int16_t *prev_vectors;
+};
+
 struct reference {
     int32_t width, height;
     size_t stride;
@@ -53,6 +64,7 @@ struct block {
 void rust_select_mv(const struct select *, int32_t out[2]);
 void rust_clamp_mv(const struct clamp *, int32_t out[2]);
 void rust_scale_mv(const struct scale *, int32_t out[4]);
+void rust_find_mv_refs(const struct search *, int32_t out[5]);
 void rust_block_inter_predict(const struct block *, int32_t room[64 * 71], int32_t beside[64 * 64]);
 
 /* ---- one case at a time: its arguments, and what each side gave */
@@ -63,7 +75,7 @@ static struct select select_args;
 static struct clamp clamp_args;
 static struct scale scale_args;
 static uint32_t answer;
-static int32_t given[2][4];
+static int32_t given[2][5];
 
 static NEVER_INLINE void ours_select(void)
 {
@@ -115,6 +127,70 @@ static NEVER_INLINE void rust_scale(void)
     rust_scale_mv(&scale_args, given[RUST]);
 }
 
+#if defined HAVE_knobspindle_find_mv_refs || defined HAVE_knobspindle_block_inter_predict
+static uint32_t chance = 1;
+
+static uint32_t next(void)
+{
+    chance = chance * 1664525 + 1013904223;
+    return chance >> 12;
+}
+#endif
+
+#ifdef HAVE_knobspindle_find_mv_refs
+enum { ROWS = 20, COLS = 30, CELLS = ROWS * COLS };
+
+static uint8_t modes[CELLS];
+static int8_t frames[2 * CELLS], prev_frames[2 * CELLS];
+static int16_t mvs[4 * CELLS], subs[16 * CELLS], prev_mvs[4 * CELLS];
+static struct search search_args;
+
+static NEVER_INLINE void ours_search(void)
+{
+    const struct search *a = &search_args;
+    knobspindle_mv_ref_geometry g = {a->mi_row, a->mi_col, a->mi_rows, a->mi_cols, a->size, a->tile_start, a->tile_end};
+    knobspindle_sign_bias bias;
+    memcpy(&bias, a->sign_bias, sizeof bias);
+    knobspindle_mv_refs r = knobspindle_find_mv_refs(a->modes, CELLS, a->frames, 2 * CELLS, a->vectors, 4 * CELLS, a->sub_vectors,
+                                                     16 * CELLS, a->prev_frames, 2 * CELLS, a->prev_vectors, 4 * CELLS, g, a->target,
+                                                     a->block, bias, a->use_prev);
+    answer = r.answer;
+    given[OURS][0] = r.first.row;
+    given[OURS][1] = r.first.col;
+    given[OURS][2] = r.second.row;
+    given[OURS][3] = r.second.col;
+    given[OURS][4] = r.context;
+}
+
+static NEVER_INLINE void rust_search(void)
+{
+    rust_find_mv_refs(&search_args, given[RUST]);
+}
+
+/* Of so many different vectors: few make equal offers, so that a search goes on. */
+static int16_t some_vector(uint32_t of)
+{
+    return (int16_t)(next() % of * 26) - 40;
+}
+
+static void fill_tables(uint32_t of)
+{
+    chance = of;
+    for (int i = 0; i < CELLS; i++)
+        modes[i] = 10 + next() % 4;
+    for (int i = 0; i < 2 * CELLS; i++) {
+        frames[i] = i & 1 ? (int8_t)(next() % 4) - 1 : 1 + next() % 3;
+        prev_frames[i] = i & 1 ? (int8_t)(next() % 4) - 1 : 1 + next() % 3;
+    }
+    for (int i = 0; i < 4 * CELLS; i++) {
+        mvs[i] = some_vector(of);
+        prev_mvs[i] = some_vector(of);
+    }
+    for (int i = 0; i < 16 * CELLS; i++)
+        subs[i] = some_vector(of);
+}
+#endif
+
 /* ---- planes and outputs of block prediction */
 
 enum { WIDTH = 250, HEIGHT = 240, STRIDE = 256, OUT_STRIDE = 96, OUT = 64 * OUT_STRIDE };
@@ -141,14 +217,6 @@ static NEVER_INLINE void ours_block(void)
 static NEVER_INLINE void rust_block(void)
 {
     rust_block_inter_predict(&block_args, rust_room, rust_beside);
-}
-
-static uint32_t chance = 1;
-
-static uint32_t next(void)
-{
-    chance = chance * 1664525 + 1013904223;
-    return chance >> 12;
 }
 
 static void fill_planes(uint32_t depth)
@@ -249,6 +317,33 @@ static void vectors(void)
     one_case("vectors", "scale_mv, 5:4", ours_scale, rust_scale);
 }
 
+#ifdef HAVE_knobspindle_find_mv_refs
+static void searches(void)
+{
+    search_args = (struct search){10, 12, ROWS, COLS, 0, COLS, 1, -1, 6, {false, false, true, false}, true, modes, frames, mvs, subs,
+                                  prev_frames, prev_mvs};
+    fill_tables(50);
+    one_case("search", "many different vectors, 16x16", ours_search, rust_search);
+    search_args.size = 12;
+    one_case("search", "many different vectors, 64x64", ours_search, rust_search);
+    search_args.size = 0;
+    search_args.block = 1;
+    one_case("search", "many different vectors, 4x4, sub-block 1", ours_search, rust_search);
+    search_args.size = 6;
+    search_args.block = -1;
+    fill_tables(1);
+    one_case("search", "one vector everywhere, 16x16", ours_search, rust_search);
+    for (int i = 0; i < CELLS; i++) {
+        frames[2 * i] = prev_frames[2 * i] = 0;
+        frames[2 * i + 1] = prev_frames[2 * i + 1] = -1;
+        modes[i] = i % 10;
+    }
+    one_case("search", "all intra, 16x16", ours_search, rust_search);
+    search_args.mi_row = search_args.mi_col = 0;
+    one_case("search", "no place inside, 16x16", ours_search, rust_search);
+}
+#endif
+
 #ifdef HAVE_knobspindle_block_inter_predict
 /* A w x w block whose first sample is (x, y) and the phase; both references alike but for what they hold. */
 static void block_case(const char *group, const char *name, size_t w, int x, int y, int phase_x, int phase_y, int step, uint32_t depth, bool average)
@@ -306,6 +401,9 @@ int main(int argc, char **argv)
         traced("empty", "empty", nothing);
     }
     vectors();
+#ifdef HAVE_knobspindle_find_mv_refs
+    searches();
+#endif
 #ifdef HAVE_knobspindle_block_inter_predict
     blocks();
 #endif

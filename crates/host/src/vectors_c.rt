@@ -3,12 +3,16 @@ ghost use mathlib.Core.Path.{_≡_};
 ghost use Rattle.vectors.specs.Select.{selectMv};
 ghost use Rattle.vectors.specs.Clamp.{clampMv};
 ghost use Rattle.vectors.specs.Scale.{scaleMv};
+ghost use Rattle.vectors.specs.MvRef.{findMvRefs};
+ghost use Rattle.candidates.specs.Tables.{tables};
 ghost use Rattle.host.specs.InC as InC;
 use base::Eighth;
 use base::Mv;
 use base::PlaneMv;
+use candidates::MvRefGeometry;
 use vectors::BlockGrid;
 use vectors::ClampedMv;
+use vectors::MvRefs;
 use vectors::ScaleGeom;
 use vectors::ScaledMv;
 use vectors::SelectedMv;
@@ -87,4 +91,44 @@ pub extern "C" fn knobspindle_scale_mv(
     ensures { λ r. ⌜ r ≡ scaleMv geom plane x y mv ⌝ }
 {
     vectors::scale_mv(geom, plane, x, y, mv)
+}
+
+// Of reference frames 0..3.
+#[repr(C)]
+pub struct SignBias {
+    pub frame: [bool; 4],
+}
+
+#[no_mangle]
+pub extern "C" fn knobspindle_find_mv_refs(
+    modes: &[u8],
+    frames: &[i8],
+    mvs: &[i16],
+    subs: &[i16],
+    prev_frames: &[i8],
+    prev_mvs: &[i16],
+    geometry: MvRefGeometry,
+    target: i32,
+    block: i32,
+    sign_bias: SignBias,
+    use_prev: bool,
+) -> MvRefs
+    ensures { λ r. ⌜ r ≡ findMvRefs
+        (tables (now (modes .entry)) (now (frames .entry)) (now (mvs .entry)) (now (subs .entry)) (now («prev_frames» .entry)) (now («prev_mvs» .entry)))
+        geometry target block («sign_bias» .frame) «use_prev» ⌝ }
+{
+    let bias = sign_bias.frame;
+    vectors::find_mv_refs(
+        modes,
+        frames,
+        mvs,
+        subs,
+        prev_frames,
+        prev_mvs,
+        geometry,
+        target,
+        block,
+        bias,
+        use_prev,
+    )
 }
