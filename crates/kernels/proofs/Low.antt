@@ -8,7 +8,7 @@ use native.Mathlib.Nat.{add-mul, add-zero, mul-zero, mul-le-mul-left, min-le-rig
 use native.Mathlib.Omega.{arith}
 use borrow.Author.Tests.{eqb-true, leb-true, ltb-false}
 use lib.Dec.{eqb, leb, ltb}
-use lib.IntN.{ℤ, pos, negsuc, _+ℤ_, pos-ne-negsuc}
+use lib.IntN.{ℤ, pos, negsuc, pos-ne-negsuc}
 use lib.ListN.{length, getD}
 use Rattle.base.specs.Position.{toN}
 use Rattle.base.proofs.Table.{every, entry}

@@ -1,16 +1,16 @@
 -- The passes put together: a row of a plane, phase 0 down, and the vertical pass over what the horizontal one left. Assumes nothing.
-use mathlib.Core.Path.{_≡_, refl, sym, ap, _∙_}
+use mathlib.Core.Path.{_≡_, sym, ap, _∙_}
 use mathlib.Core.List.{List}
-use Prim.Native.Nat.{ℕ, _+_, _-_, _*_, _/_, _%_, _<_, _≤_, min}
-use native.Mathlib.Nat.{mul-le-mul-left, mul-le-mul-right, suc-mul, zero-add, min-le-right, min-eq-left}
+use Prim.Native.Nat.{ℕ, _+_, _-_, _*_, _/_, _%_, _<_, _≤_}
+use native.Mathlib.Nat.{mul-le-mul-left, mul-le-mul-right, suc-mul, min-le-right, min-eq-left}
 use native.Mathlib.Omega.{arith}
 use lib.IntN.{ℤ}
 use lib.ListN.{length, getD}
 use Rattle.base.specs.Paint.{fill, paint}
-use Rattle.base.proofs.Painted.{fill-same, fill-at, paint-at, paint-else, paint-same, paint-over}
+use Rattle.base.proofs.Painted.{fill-same, paint-at, paint-else, paint-same, paint-over}
 use Rattle.kernels.specs.Taps.{tap}
 use Rattle.samples.specs.Plane.{Lent, plane, rowOf, widthOf, heightOf}
-use Rattle.kernels.specs.Kernel.{apart, ran, clipped, seat, level, listed, levels, meanOf, Below}
+use Rattle.kernels.specs.Kernel.{apart, ran, seat, level, listed, levels, meanOf, Below}
 use Rattle.samples.specs.Lifted.{acrossFrom, downAt, blockAt, meanWith, HeldRoom}
 use Rattle.samples.proofs.Bands.{row-at}
 use Rattle.kernels.proofs.Filtered.{samples-same, filtered-whole, filtered-max}

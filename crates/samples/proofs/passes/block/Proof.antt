@@ -42,8 +42,16 @@ pass-across-requires : tie.Need-pass-across-requires
 pass-across-requires c κs =
     let t = c .before .before .before in
     let s = entry t in
-    let e = t .taps-at .ensures in
-    (t .before .before .subpel-filters .ensures, (e .0, (omega (arith, e .1, e .2, s .pre .0), (omega (arith, s .pre .0, s .pre .1 .0, far s), (s .pre .1 .1 .0, s .pre .1 .1 .1)))))
+    let e = t .taps-at .ensures in (
+      t .before .before .subpel-filters .ensures,
+      (
+        e .0,
+        (
+          omega (arith, e .1, e .2, s .pre .0),
+          (omega (arith, s .pre .0, s .pre .1 .0, far s), (s .pre .1 .1 .0, s .pre .1 .1 .1)),
+        ),
+      ),
+    )
 
 same-length : tie.Need-same-length
 same-length c = search needs
