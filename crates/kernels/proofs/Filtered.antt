@@ -1,7 +1,6 @@
 -- Laws of the one-sample sum: the code's unsigned sum is the definition's, samples that agree give one result, phase 0 is the sample itself.
 -- Assumes nothing.
 use mathlib.Core.Path.{_≡_, refl, sym, ap, _∙_}
-use mathlib.Core.List.{List}
 use Prim.Native.Nat.{ℕ, zero, suc, _+_, _-_, _*_, _/_, _<_, _≤_, min}
 use native.Mathlib.Nat.{mul-suc, min-le-right}
 use native.Mathlib.Omega.{arith}

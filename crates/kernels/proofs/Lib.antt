@@ -2,4 +2,5 @@ pub mod Casts
 pub mod Filtered
 pub mod Lines
 pub mod Loops
+pub mod Low
 pub mod TapRules

@@ -1,6 +1,6 @@
 -- A row of results, however it is computed, is the definition's on lifted positions: one phase, phase 0, and over a line of held samples.
 -- Assumes nothing.
-use mathlib.Core.Path.{_≡_, refl, sym, ap, _∙_}
+use mathlib.Core.Path.{_≡_, sym, ap, _∙_}
 use mathlib.Core.List.{List}
 use Prim.Native.Nat.{ℕ, _+_, _-_, _*_, _/_, _%_, _<_, _≤_, min}
 use native.Mathlib.Nat.{mul-le-mul-left, zero-add}
@@ -10,7 +10,6 @@ use lib.ListN.{length, getD}
 use Rattle.base.specs.Paint.{fill}
 use Rattle.base.proofs.Painted.{fill-same, fill-at}
 use Rattle.kernels.specs.Taps.{tap}
-use Rattle.kernels.specs.Filter.{filtered}
 use Rattle.kernels.specs.Kernel.{apart, ran, stepped, clipped, seat, level, levels, heldFrom, listed, meanOf}
 use Rattle.kernels.proofs.Filtered.{filtered-same, filtered-whole}
 

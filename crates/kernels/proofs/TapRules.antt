@@ -1,6 +1,6 @@
 -- The rules of the 512 taps (document 01, 'Samples'): one test that is computed over the whole table, and what it says of each row.
 -- Assumes nothing.
-use mathlib.Core.Path.{_≡_, refl, ap, _∙_}
+use mathlib.Core.Path.{_≡_, refl, ap}
 use mathlib.Core.Bool.{Bool, true, false, _&&_, cond}
 use mathlib.Core.List.{List, []}
 use Prim.Native.Nat.{ℕ, _-_, _*_, _<_}

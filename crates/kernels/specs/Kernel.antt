@@ -1,6 +1,6 @@
 -- Internal: what the rows compute, on lists and on positions lifted by 3,200,000, which is 200,000 columns or rows. No definition that a
 -- caller reads cites this file. Assumes nothing.
-use Prim.Native.Nat.{ℕ, _+_, _-_, _*_, _/_, _%_, _≤_, min}
+use Prim.Native.Nat.{ℕ, _+_, _-_, _*_, _/_, _%_, _≤_, _<_, min}
 use mathlib.Core.Path.{_≡_}
 use mathlib.Core.List.{List}
 use lib.IntN.{ℤ, pos, _+ℤ_}
@@ -72,3 +72,22 @@ heldFrom row last b j = getD row (min (b + j - 200003) last) 0
 -- the rounded means of what stands in the output from place at on and of f
 unfoldable pub meanOf : List ℕ → ℕ → (ℕ → ℕ) → ℕ → ℕ
 meanOf out at f c = (getD out (at + c) 0 + f c + 1) / 2
+
+-- what the code makes of eight samples that are at most 255, by a sum modulo 65,536: 13,123,648 is 64 + 16,384 past a multiple of it
+unfoldable pub lowOne : Taps → ℕ → ℕ → ℕ → ℕ → ℕ → ℕ → ℕ → ℕ → ℕ
+lowOne p a b c d e f g h =
+    min (((products p a b c d e f g h + 13123648 - 24 * (a + b + c + d + e + f + g + h)) % 65536 - 16384) / 128) 255
+
+-- of the samples of l from place s on, 64 apart
+abbrev pub lowAt : Taps → List ℕ → ℕ → ℕ
+lowAt p l s =
+    lowOne p (getD l s 0) (getD l (s + 64) 0) (getD l (s + 128) 0) (getD l (s + 192) 0) (getD l (s + 256) 0) (getD l (s + 320) 0)
+    (getD l (s + 384) 0) (getD l (s + 448) 0)
+
+-- a row of them
+unfoldable pub lowRan : Taps → List ℕ → ℕ → ℕ → ℕ
+lowRan p l b c = lowAt p l (b + c)
+
+-- of eight rows, 64 apart, the w samples from place b on are at most max
+pub record Below (max : ℕ) (l : List ℕ) (b w : ℕ) : Type 0 where
+  pub le : (c t : ℕ) → c < w → t < 8 → apart l 64 (b + c) t ≤ max

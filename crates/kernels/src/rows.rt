@@ -22,7 +22,7 @@ fn mul(t: u16, x: u16) -> u32
     (t as u32) * (x as u32)
 }
 
-fn dot(p: Taps, a: u16, b: u16, c: u16, d: u16, e: u16, f: u16, g: u16, h: u16) -> u32
+pub(crate) fn dot(p: Taps, a: u16, b: u16, c: u16, d: u16, e: u16, f: u16, g: u16, h: u16) -> u32
     requires { ⌜ IsTaps p ⌝ }
     ensures { λ r. ⌜ (r ≡ products p a b c d e f g h) × (r ≤ 79690560) ⌝ }
 {
@@ -37,7 +37,7 @@ fn dot(p: Taps, a: u16, b: u16, c: u16, d: u16, e: u16, f: u16, g: u16, h: u16) 
 }
 
 // What the 24 on each tap added to the sum.
-fn surplus(a: u16, b: u16, c: u16, d: u16, e: u16, f: u16, g: u16, h: u16) -> u32
+pub(crate) fn surplus(a: u16, b: u16, c: u16, d: u16, e: u16, f: u16, g: u16, h: u16) -> u32
     ensures { λ r. ⌜ r ≡ 24 * (a + b + c + d + e + f + g + h) ⌝ }
 {
     24 * (wide(a) + wide(b) + wide(c) + wide(d) + wide(e) + wide(f) + wide(g) + wide(h))
@@ -118,7 +118,7 @@ pub fn row_filtered(
     }
 }
 
-fn lesser(a: u16, b: u16) -> u16
+pub(crate) fn lesser(a: u16, b: u16) -> u16
     ensures { λ r. ⌜ r ≡ min a b ⌝ }
 {
     if a < b { a } else { b }

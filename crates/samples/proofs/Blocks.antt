@@ -1,17 +1,17 @@
 -- The passes put together: a row of a plane, phase 0 down, and the vertical pass over what the horizontal one left. Assumes nothing.
-use mathlib.Core.Path.{_≡_, refl, sym, ap, _∙_}
+use mathlib.Core.Path.{_≡_, sym, ap, _∙_}
 use mathlib.Core.List.{List}
-use Prim.Native.Nat.{ℕ, _+_, _-_, _*_, _/_, _%_, _<_, _≤_, min}
-use native.Mathlib.Nat.{mul-le-mul-left, mul-le-mul-right, suc-mul, zero-add, min-le-right, min-eq-left}
+use Prim.Native.Nat.{ℕ, _+_, _-_, _*_, _/_, _%_, _<_, _≤_}
+use native.Mathlib.Nat.{mul-le-mul-left, mul-le-mul-right, suc-mul, min-le-right, min-eq-left}
 use native.Mathlib.Omega.{arith}
 use lib.IntN.{ℤ}
 use lib.ListN.{length, getD}
 use Rattle.base.specs.Paint.{fill, paint}
-use Rattle.base.proofs.Painted.{fill-same, fill-at, paint-at, paint-else, paint-same, paint-over}
+use Rattle.base.proofs.Painted.{fill-same, paint-at, paint-else, paint-same, paint-over}
 use Rattle.kernels.specs.Taps.{tap}
 use Rattle.samples.specs.Plane.{Lent, plane, rowOf, widthOf, heightOf}
-use Rattle.kernels.specs.Kernel.{apart, ran, clipped, seat, level, listed, levels, meanOf}
-use Rattle.samples.specs.Lifted.{acrossFrom, downAt, blockAt, meanWith}
+use Rattle.kernels.specs.Kernel.{apart, ran, seat, level, listed, levels, meanOf, Below}
+use Rattle.samples.specs.Lifted.{acrossFrom, downAt, blockAt, meanWith, HeldRoom}
 use Rattle.samples.proofs.Bands.{row-at}
 use Rattle.kernels.proofs.Filtered.{samples-same, filtered-whole, filtered-max}
 
@@ -85,3 +85,23 @@ mean-painted out stride w h f g ws fit =
     paint-same m stride w h _ _
     (λ r c rh cw. ap (λ (v : ℕ). (v + g r c + 1) / 2) (paint-at out stride w h f ws fit r c rh cw))
     ∙ paint-over out stride w h f _ ws fit
+
+-- what the horizontal pass left is at most max
+pub room-held : (max : ℕ) (taps : ℕ → ℕ → ℤ) (p : Lent) (start step y0 w n : ℕ) (room : List ℕ) → w ≤ 64 → (n - 1) * 64 + w ≤ length room
+    → HeldRoom max (paint room 64 w n (acrossFrom max taps p start step y0)) n w
+unfolding acrossFrom level
+room-held max taps p start step y0 w n room w64 long = record {
+  le = λ i c ni cw. rw (paint-at room 64 w n (acrossFrom max taps p start step y0) w64 long i c ni cw) (filtered-max max _ _);
+}
+
+-- so are the eight rows that a row of the block reads
+pub below-row : (max : ℕ) (room : List ℕ) (w start step r h : ℕ) → HeldRoom max room ((start % 16 + step * (h - 1)) / 16 + 8) w → r < h
+    → Below max room (((start + step * r) / 16 - start / 16) * 64) w
+unfolding apart
+below-row max room w start step r h held rh = record {
+  le = λ c t cw t8.
+      let far : step * r ≤ step * (h - 1) = mul-le-mul-left step (omega arith) in
+      let i : ℕ = (start + step * r) / 16 - start / 16 + t in
+      let place : ((start + step * r) / 16 - start / 16) * 64 + c + 64 * t ≡ i * 64 + c = omega arith in
+      rw place (held .le i c (omega arith) cw);
+}

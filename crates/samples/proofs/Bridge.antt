@@ -1,7 +1,7 @@
 -- What the code computes on lifted positions is what the definitions say on signed ones. Assumes nothing.
-use mathlib.Core.Path.{_≡_, refl, sym, ap, _∙_}
+use mathlib.Core.Path.{_≡_, sym, ap, _∙_}
 use mathlib.Core.List.{List}
-use Prim.Native.Nat.{ℕ, _+_, _-_, _*_, _%_, _^_}
+use Prim.Native.Nat.{ℕ, _+_, _-_, _*_, _^_}
 use lib.IntN.{ℤ}
 use Rattle.base.specs.Position.{toN, mod16, along, place}
 use Rattle.base.proofs.Lift.{Diff, Lifted, lifted, diff-along, place-lifted}

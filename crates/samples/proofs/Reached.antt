@@ -12,7 +12,7 @@ use Rattle.kernels.specs.Taps.{tap}
 use Rattle.samples.specs.Sample.{across, sample, blend}
 use Rattle.samples.specs.Plane.{Lent, plane, widthOf, heightOf}
 use Rattle.samples.specs.Call.{Ref, ref, Call, fromRef, value}
-use Rattle.samples.specs.Reach.{low, high, Agree, SamePlane, Moved, Piece, Rectangle}
+use Rattle.samples.specs.Reach.{low, high, Agree, SamePlane, Piece, Rectangle}
 use Rattle.samples.specs.declared.block_inter_pred.BlockShape.{BlockShape}
 use Rattle.samples.specs.declared.block_inter_pred.Stepping.{Stepping}
 use Rattle.kernels.proofs.Filtered.{samples-same}

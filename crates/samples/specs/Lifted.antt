@@ -1,10 +1,11 @@
 -- Internal: what the passes compute, on positions lifted by 3,200,000, which is 200,000 columns or rows. No definition that a caller reads
 -- cites this file; proofs/Bridge.antt joins it to those that do. Assumes nothing.
-use Prim.Native.Nat.{ℕ, _+_, _-_, _*_, _/_, _%_, min}
+use Prim.Native.Nat.{ℕ, _+_, _-_, _*_, _/_, _%_, _≤_, _<_, min}
 use mathlib.Core.Path.{_≡_}
 use mathlib.Core.Bool.{true, _&&_}
 use mathlib.Core.List.{List}
 use lib.IntN.{ℤ, pos}
+use lib.ListN.{getD}
 use Rattle.base.specs.Number.{within}
 use Rattle.kernels.specs.Kernel.{ran, level, meanOf}
 use Rattle.samples.specs.Plane.{Lent, lent, plane, widthOf, heightOf, sized, fits}
@@ -32,6 +33,10 @@ blockAt max taps p sx stepx sy stepy r c =
 -- the same of a rectangle of the output, row by row
 unfoldable pub meanWith : List ℕ → ℕ → (ℕ → ℕ → ℕ) → ℕ → ℕ → ℕ
 meanWith out stride f r = meanOf out (r * stride) (f r)
+
+-- the first n rows of w numbers of the room, 64 apart, are at most max
+pub record HeldRoom (max : ℕ) (room : List ℕ) (n w : ℕ) : Type 0 where
+  pub le : (i c : ℕ) → i < n → c < w → getD room (i * 64 + c) 0 ≤ max
 
 -- a block and a reference that passed their tests
 pub record Legal (b : BlockShape) (p : Ref) : Type 0 where

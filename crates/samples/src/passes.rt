@@ -7,7 +7,7 @@ ghost use Rattle.base.specs.Paint.{paint};
 ghost use Rattle.kernels.specs.Taps.{filters, tap};
 ghost use Rattle.samples.specs.Plane.{holds, fits};
 ghost use Rattle.kernels.specs.Kernel.{IsTaps};
-ghost use Rattle.samples.specs.Lifted.{view, acrossFrom, downAt, blockAt, meanWith};
+ghost use Rattle.samples.specs.Lifted.{view, acrossFrom, downAt, blockAt, meanWith, HeldRoom};
 use crate::plane::plane_row;
 use kernels::Taps;
 use kernels::held;
@@ -70,6 +70,7 @@ fn pass_down(
     requires { ⌜ now table ≡ filters ⌝ }
     requires { ⌜ (filter < 4) × (start ≤ 6400000) × (step ≤ 32) × (w ≤ 64) × (h ≤ 64) × (8576 ≤ length (now room)) ⌝ }
     requires { ⌜ holds h stride w (length (now out)) ≡ true ⌝ }
+    requires { ⌜ HeldRoom max (now room) ((start % 16 + step * (h - 1)) / 16 + 8) w ⌝ }
     ensures { λ _. ⌜ now (out .exit) ≡ paint (now (out .entry)) stride w h (downAt max (tap filter) (now (room .entry)) start step) ⌝ }
 {
     let mut r = 0;
@@ -98,6 +99,7 @@ fn pass_down_mean(
     requires { ⌜ now table ≡ filters ⌝ }
     requires { ⌜ (filter < 4) × (start ≤ 6400000) × (step ≤ 32) × (w ≤ 64) × (h ≤ 64) × (8576 ≤ length (now room)) × (w ≤ stride) ⌝ }
     requires { ⌜ holds h stride w (length (now out)) ≡ true ⌝ }
+    requires { ⌜ HeldRoom max (now room) ((start % 16 + step * (h - 1)) / 16 + 8) w ⌝ }
     ensures { λ _. ⌜ now (out .exit) ≡ paint (now (out .entry)) stride w h
         (meanWith (now (out .entry)) stride (downAt max (tap filter) (now (room .entry)) start step)) ⌝ }
 {

@@ -10,7 +10,7 @@ slice-aggregate-row-down : tie.Need-slice-aggregate-row-down
 slice-aggregate-row-down c = search needs
 
 row-down-requires : tie.Need-row-down-requires
-row-down-requires c κs = search needs
+row-down-requires c κs = let s = c .before .before .before in (s .pre .0, (omega (arith, s .pre .1 .0), s .pre .1 .1))
 
 slice-aggregate-row-mean : tie.Need-slice-aggregate-row-mean
 slice-aggregate-row-mean c = search needs
@@ -30,7 +30,7 @@ returns c =
     let s = s1 .before in
     let a = s .args in
     rw (d .row-down .ensures) at (r .row-mean .ensures)
-    ∙ mean-filled (a .out .now) _ (a .at) (a .w) _ (a .out .now) (omega (arith, s .pre))
+    ∙ mean-filled (a .out .now) _ (a .at) (a .w) _ (a .out .now) (omega (arith, s .pre .1 .0))
 
 pub row-down-mean-spec : {M : Type 1} → statement M
 row-down-mean-spec =

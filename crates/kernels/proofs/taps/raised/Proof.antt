@@ -13,7 +13,7 @@ use mir.Val.{SFits}
 use Rattle.base.specs.Number.{between}
 use Rattle.base.proofs.Bd.{bd, fits}
 use Rattle.base.proofs.Tests.{and-left}
-use Rattle.kernels.specs.Taps.{filters, tap}
+use Rattle.kernels.specs.Taps.{tap}
 use Rattle.kernels.proofs.Casts.{sum-fits, lift-casts, lift-gives}
 use Rattle.kernels.proofs.TapRules.{tap-range}
 use borrow.Author.Needs.{needs}

@@ -1,6 +1,6 @@
 -- `samples::passes::block` meets its contract: the two passes, or the one that is needed. Assumes nothing.
 use mathlib.Core.Path.{_≡_, ap, _∙_}
-use Prim.Native.Nat.{_-_, _*_, _%_, _≤_}
+use Prim.Native.Nat.{_+_, _-_, _*_, _/_, _%_, _≤_}
 use native.Mathlib.Nat.{mul-le-mul}
 use native.Mathlib.Omega.{arith}
 use borrow.Author.Tests.{eqb-true}
@@ -13,7 +13,7 @@ use Rattle.kernels.specs.Taps.{tap}
 use Rattle.samples.specs.Plane.{Lent}
 use Rattle.samples.specs.Lifted.{view}
 use Rattle.samples.proofs.Bands.{holds-long}
-use Rattle.samples.proofs.Blocks.{whole-rows, both-passes}
+use Rattle.samples.proofs.Blocks.{whole-rows, both-passes, room-held}
 use Rattle.samples.proofs.passes.block.Statement.{statement}
 use Rattle.samples.proofs.passes.block.Tie as tie
 
@@ -42,8 +42,16 @@ pass-across-requires : tie.Need-pass-across-requires
 pass-across-requires c κs =
     let t = c .before .before .before in
     let s = entry t in
-    let e = t .taps-at .ensures in
-    (t .before .before .subpel-filters .ensures, (e .0, (omega (arith, e .1, e .2, s .pre .0), (omega (arith, s .pre .0, s .pre .1 .0, far s), (s .pre .1 .1 .0, s .pre .1 .1 .1)))))
+    let e = t .taps-at .ensures in (
+      t .before .before .subpel-filters .ensures,
+      (
+        e .0,
+        (
+          omega (arith, e .1, e .2, s .pre .0),
+          (omega (arith, s .pre .0, s .pre .1 .0, far s), (s .pre .1 .1 .0, s .pre .1 .1 .1)),
+        ),
+      ),
+    )
 
 same-length : tie.Need-same-length
 same-length c = search needs
@@ -101,7 +109,13 @@ pass-down-requires c κs =
     let t = t1 .before in
     let s = entry t in
     let long = ap length (x .pass-across2 .ensures) ∙ length-paint _ _ _ _ _ in
-    (t .before .before .subpel-filters .ensures, (omega (arith, s .pre .0, s .pre .1 .0, long), s .pre .1 .1 .1))
+    let a = s .args in
+    let n = (a .sy % 16 + a .stepy * (a .h - 1)) / 16 + 8 in
+    let held = room-held (a .max) (tap (t .taps-at .result .filter)) (plane s) (a .sx) (a .stepx) (a .sy / 16) (a .w) n (a .room .now)
+    (omega (arith, s .pre .0)) (omega (arith, s .pre .0, s .pre .1 .0, far s)) in (
+      t .before .before .subpel-filters .ensures,
+      (omega (arith, s .pre .0, s .pre .1 .0, long), (s .pre .1 .1 .1, rw (x .pass-across2 .ensures) held)),
+    )
 
 same-length-2 : tie.Need-same-length-2
 same-length-2 c = search needs

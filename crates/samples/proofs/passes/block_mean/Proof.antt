@@ -1,6 +1,6 @@
 -- `samples::passes::block_mean` meets its contract: the two passes, and the means. Assumes nothing.
 use mathlib.Core.Path.{ap, _∙_}
-use Prim.Native.Nat.{ℕ, _+_, _-_, _*_, _/_, _≤_}
+use Prim.Native.Nat.{ℕ, _+_, _-_, _*_, _/_, _%_, _≤_}
 use native.Mathlib.Nat.{mul-le-mul}
 use native.Mathlib.Omega.{arith}
 use borrow.Author.Needs.{needs}
@@ -12,7 +12,7 @@ use Rattle.samples.specs.Plane.{Lent}
 use Rattle.kernels.specs.Kernel.{meanOf}
 use Rattle.samples.specs.Lifted.{view, meanWith}
 use Rattle.samples.proofs.Bands.{holds-long}
-use Rattle.samples.proofs.Blocks.{both-passes}
+use Rattle.samples.proofs.Blocks.{both-passes, room-held}
 use Rattle.samples.proofs.passes.block_mean.Statement.{statement}
 use Rattle.samples.proofs.passes.block_mean.Tie as tie
 
@@ -71,7 +71,13 @@ pass-down-mean-requires c κs =
     let t = x .before .before .before in
     let s = entry t in
     let long = ap length (x .pass-across .ensures) ∙ length-paint _ _ _ _ _ in
-    (t .before .before .subpel-filters .ensures, (omega (arith, s .pre .0, s .pre .1 .0, long), s .pre .1 .1 .1))
+    let a = s .args in
+    let n = (a .sy % 16 + a .stepy * (a .h - 1)) / 16 + 8 in
+    let held = room-held (a .max) (tap (t .taps-at .result .filter)) (plane s) (a .sx) (a .stepx) (a .sy / 16) (a .w) n (a .room .now)
+    (omega (arith, s .pre .0)) (omega (arith, s .pre .0, s .pre .1 .0, far s)) in (
+      t .before .before .subpel-filters .ensures,
+      (omega (arith, s .pre .0, s .pre .1 .0, long), (s .pre .1 .1 .1, rw (x .pass-across .ensures) held)),
+    )
 
 same-length : tie.Need-same-length
 same-length c = search needs

@@ -8,6 +8,7 @@ use lib.ListN.{length}
 use Rattle.base.proofs.Lift.{Start}
 use Rattle.kernels.specs.Taps.{tap}
 use Rattle.samples.specs.Lifted.{downAt}
+use Rattle.samples.proofs.Blocks.{below-row}
 use Rattle.samples.proofs.Bands.{holds-row}
 use Rattle.kernels.proofs.Loops.{Painting, paint-none, paint-turn}
 use Rattle.samples.proofs.passes.pass_down.Statement.{statement}
@@ -28,7 +29,7 @@ far c = mul-le-mul {n₂ = 32} {m₂ = 63} (omega arith) (omega arith)
 -- row r is inside the output
 in-out : (c : tie.In-loop Inv-loop μ-loop) → let l = c .before .before in let m = l .before .before in let a = m .args in
     c .before .loop .r * a .stride + a .w ≤ length (a .out .now)
-in-out c = let a = start c .args in holds-row (a .h) (a .stride) (a .w) (length (a .out .now)) (c .before .loop .r) (start c .pre .1 .1) (omega arith)
+in-out c = let a = start c .args in holds-row (a .h) (a .stride) (a .w) (length (a .out .now)) (c .before .loop .r) (start c .pre .1 .1 .0) (omega arith)
 
 loop-holds : tie.Need-loop-holds Inv-loop μ-loop
 loop-holds c = (omega arith, paint-none _ _ _ _)
@@ -55,7 +56,10 @@ row-down-requires : tie.Need-row-down-requires Inv-loop μ-loop
 row-down-requires c κs =
     let i = c .before .before in
     let t = c .before .taps-at .ensures in
-    (t .0, omega (arith, t .1, far i, in-out i, start i .pre .1 .0))
+    let a = start i .args in
+    let r = i .before .loop .r in
+    let held = below-row (a .max) (a .room .now) (a .w) (a .start) (a .step) r (a .h) (start i .pre .1 .1 .1) (omega arith) in
+    (t .0, (omega (arith, t .1, t .2, far i, in-out i, start i .pre .1 .0), held))
 
 add-r : tie.Need-add-r Inv-loop μ-loop
 add-r c = omega arith
