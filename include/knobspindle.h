@@ -116,6 +116,17 @@ typedef struct {
     uint8_t context;
 } knobspindle_mv_refs;
 
+/* The vectors of a block's four sub-blocks in one list. */
+typedef struct {
+    knobspindle_mv mvs[4];
+} knobspindle_sub_mvs;
+
+/* Two vectors, the nearest and the near one. */
+typedef struct {
+    uint32_t answer;
+    knobspindle_mv first, second;
+} knobspindle_mv_pair;
+
 /* Numbers of working room that knobspindle_block_inter_predict asks for. */
 #define KNOBSPINDLE_ROOM 8576
 
@@ -140,6 +151,18 @@ knobspindle_mv_refs knobspindle_find_mv_refs(const uint8_t *modes, size_t modes_
                                              const int8_t *prev_frames, size_t prev_frames_len, const int16_t *prev_mvs,
                                              size_t prev_mvs_len, knobspindle_mv_ref_geometry geometry, int32_t target, int32_t block,
                                              knobspindle_sign_bias sign_bias, bool use_prev);
+
+/* The two predictors of sub-block 0..3 of a block below 8x8, over the search's tables; own has the block's vectors so far, in eighths.
+ * Answers 1, 2, 3, 7, 8 and 9 (components -32767..32767). */
+knobspindle_mv_pair knobspindle_append_sub8x8_mvs(const uint8_t *modes, size_t modes_len, const int8_t *frames, size_t frames_len,
+                                                  const int16_t *mvs, size_t mvs_len, const int16_t *subs, size_t subs_len,
+                                                  const int8_t *prev_frames, size_t prev_frames_len, const int16_t *prev_mvs,
+                                                  size_t prev_mvs_len, knobspindle_mv_ref_geometry geometry, size_t block, int32_t target,
+                                                  knobspindle_sub_mvs own, knobspindle_sign_bias sign_bias, bool use_prev);
+
+/* A pair of candidates lowered to the precision in use and held near the frame. Answers 1, 2 and 9 (components -32767..32767). */
+knobspindle_mv_pair knobspindle_find_best_ref_mvs(knobspindle_mv_ref_geometry geometry, knobspindle_mv first, knobspindle_mv second,
+                                                  bool high_precision);
 
 /* Where row y of a plane in two bands stands. Lengths count samples. Answers 5, 6 and 7. */
 knobspindle_row_place knobspindle_row_read(const uint16_t *upper, size_t upper_len, const uint16_t *lower, size_t lower_len,

@@ -156,8 +156,37 @@ static void block_inter_predict(void)
     check("block, depth 9: answer", answer, KNOBSPINDLE_FILTER);
 }
 
+static void append_and_best(void)
+{
+    /* one cell, the block's own: no place is inside, so the search gives zeros */
+    uint8_t modes[1] = {0};
+    int8_t frames[2] = {0};
+    int16_t mvs[4] = {0}, subs[16] = {0};
+    knobspindle_mv_ref_geometry g = {.mi_rows = 1, .mi_cols = 1, .mi_size = 0, .mi_col_end = 1};
+    knobspindle_sub_mvs own = {{{8, 16}, {8, 16}, {8, 16}, {0, 0}}};
+    knobspindle_sign_bias bias = {{false}};
+    knobspindle_mv_pair r = knobspindle_append_sub8x8_mvs(modes, 1, frames, 2, mvs, 4, subs, 16, 0, 0, 0, 0, g, 3, 1, own, bias, false);
+    check("append, equal block vectors: answer", r.answer, KNOBSPINDLE_ACCEPTED);
+    check("append, equal block vectors: first row", r.first.row, 8);
+    check("append, equal block vectors: second row", r.second.row, 0);
+    check("append, sub-block 4: answer", knobspindle_append_sub8x8_mvs(modes, 1, frames, 2, mvs, 4, subs, 16, 0, 0, 0, 0, g, 4, 1, own, bias,
+                                                                      false).answer, KNOBSPINDLE_BLOCK);
+    g.mi_rows = g.mi_cols = g.mi_col_end = 100;
+    g.mi_row = g.mi_col = 50;
+    /* document 01: (3, -3) low precision gives (2, -2); with high precision (63, 0) stays and (64, 1) gives (64, 0) */
+    r = knobspindle_find_best_ref_mvs(g, (knobspindle_mv){3, -3}, (knobspindle_mv){0, 0}, false);
+    check("best, low precision: row", r.first.row, 2);
+    check("best, low precision: column", r.first.col, -2);
+    r = knobspindle_find_best_ref_mvs(g, (knobspindle_mv){63, 0}, (knobspindle_mv){64, 1}, true);
+    check("best, high precision, small: row", r.first.row, 63);
+    check("best, high precision, large: column", r.second.col, 0);
+    g.mi_size = 13;
+    check("best, size 13: answer", knobspindle_find_best_ref_mvs(g, r.first, r.second, true).answer, KNOBSPINDLE_BLOCK);
+}
+
 int main(void)
 {
+    append_and_best();
     select_mv();
     clamp_mv();
     scale_mv();

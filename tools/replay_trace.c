@@ -95,8 +95,8 @@ static void arguments(void) {
     int32_t rows = number(), cols = number(), row = number(), col = number(), size = number(), start = number(), end = number();
     a.g = (knobspindle_mv_ref_geometry){row, col, rows, cols, (size_t)size, start, end};
     a.target = number(), a.block = number();
-    a.bias.of[0] = false;
-    for (int f = 1; f < 4; f++) a.bias.of[f] = number() != 0;
+    a.bias.frame[0] = false;
+    for (int f = 1; f < 4; f++) a.bias.frame[f] = number() != 0;
     a.use_prev = number() != 0, a.high_precision = number() != 0;
     a.cells = (size_t)rows * (size_t)cols;
     if (rows < 1 || cols < 1 || row < 0 || col < 0 || row >= rows || col >= cols || a.cells > CELLS) { broken = true; return; }
