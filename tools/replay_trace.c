@@ -1,5 +1,8 @@
 /* Replays the searches (M) and sub-8x8 lists (A) of a decoder's trace, read from standard input, through the compiled library. The lines of
  * the format are told in the traces' own FORMAT.md. A line a kind: 'search: N calls, D differences', ..; exit status 1 if anything differs.
+ *
+ * Built with MEASURE (tools/speed-traces does), 'SIDE TIMES' makes each search TIMES times and compares nothing: SIDE is ours, rust, or judged
+ * (ours with the record that is judged last made illegal, so that the call ends when all records have been judged).
  */
 #include <stdbool.h>
 #include <stdint.h>
@@ -68,6 +71,8 @@ static struct {
 
 static void put(int16_t *table, size_t at, knobspindle_mv v) { table[at] = (int16_t)v.row, table[at + 1] = (int16_t)v.col; }
 
+static int8_t *last_frame; /* of the line's last place inside, list 0 */
+
 /* one place's record: mode, frames, and for each list the whole vector and four sub-vectors */
 static void place(void) {
     if (number() == 0) return;
@@ -75,6 +80,7 @@ static void place(void) {
     size_t i = (size_t)row * (size_t)a.g.mi_cols + (size_t)col;
     if (row < 0 || col < 0 || i >= a.cells) { broken = true; return; }
     modes[i] = (uint8_t)number();
+    last_frame = &frames[2 * i];
     frames[2 * i] = (int8_t)number(), frames[2 * i + 1] = (int8_t)number();
     for (size_t list = 0; list < 2; list++) {
         put(mvs, 4 * i + 2 * list, vector());
@@ -100,6 +106,7 @@ static void arguments(void) {
     a.use_prev = number() != 0, a.high_precision = number() != 0;
     a.cells = (size_t)rows * (size_t)cols;
     if (rows < 1 || cols < 1 || row < 0 || col < 0 || row >= rows || col >= cols || a.cells > CELLS) { broken = true; return; }
+    last_frame = 0;
     for (int k = 0; k < 8; k++) place();
     previous();
 }
@@ -119,6 +126,48 @@ static bool search_agrees(void) {
            same(pair.first, best) && same(pair.second, near);
 }
 
+#ifdef MEASURE
+struct search {
+    int32_t mi_row, mi_col, mi_rows, mi_cols, tile_start, tile_end, target, block;
+    size_t size;
+    bool sign_bias[4], use_prev;
+    const uint8_t *modes;
+    const int8_t *frames;
+    const int16_t *vectors, *sub_vectors;
+    const int8_t *prev_frames;
+    const int16_t *prev_vectors;
+};
+
+void rust_find_mv_refs(const struct search *, int32_t out[5]);
+
+static knobspindle_mv_refs ours(void) {
+    return knobspindle_find_mv_refs(modes, a.cells, frames, 2 * a.cells, mvs, 4 * a.cells, subs, 16 * a.cells, prev_frames, 2 * a.cells,
+                                    prev_mvs, 4 * a.cells, a.g, a.target, a.block, a.bias, a.use_prev);
+}
+
+static void rust(void) {
+    struct search s = {a.g.mi_row, a.g.mi_col, a.g.mi_rows, a.g.mi_cols, a.g.mi_col_start, a.g.mi_col_end, a.target, a.block, a.g.mi_size, {0},
+                       a.use_prev, modes, frames, mvs, subs, prev_frames, prev_mvs};
+    memcpy(s.sign_bias, a.bias.frame, sizeof s.sign_bias);
+    int32_t out[5];
+    rust_find_mv_refs(&s, out);
+}
+
+/* the search that was just read, so many times; false where it has no record to make illegal */
+static bool measured(char side, int times) {
+    int8_t *last = a.use_prev ? &prev_frames[2 * ((size_t)a.g.mi_row * (size_t)a.g.mi_cols + (size_t)a.g.mi_col)] : last_frame;
+    if (!last) return false;
+    int8_t kept = *last;
+    if (side == 'j') *last = 4;
+    for (int i = 0; i < times; i++) {
+        if (side == 'r') rust();
+        else if (ours().answer != (side == 'j' ? KNOBSPINDLE_RECORD : KNOBSPINDLE_ACCEPTED)) printf("trace: a measured call answered otherwise\n");
+    }
+    *last = kept;
+    return true;
+}
+#endif
+
 static bool list_agrees(void) {
     knobspindle_sub_mvs of;
     for (int b = 0; b < 4; b++) of.mvs[b] = vector();
@@ -129,6 +178,23 @@ static bool list_agrees(void) {
     return got.answer == 0 && same(got.first, first) && same(got.second, second);
 }
 
+#ifdef MEASURE
+#include <stdlib.h>
+
+int main(int words, char **word) {
+    uint32_t searches = 0;
+    if (words != 3) return 2;
+    for (; peek() >= 0; next_line()) {
+        if (peek() != 'M') continue;
+        used++;
+        arguments();
+        if (broken) return 1;
+        searches += measured(word[1][0], atoi(word[2]));
+    }
+    printf("%u searches\n", searches);
+    return 0;
+}
+#else
 int main(void) {
     uint32_t searches = 0, wrong_searches = 0, lists = 0, wrong_lists = 0, line = 0;
     while (peek() >= 0) {
@@ -151,3 +217,4 @@ int main(void) {
     printf("search: %u calls, %u differences\nlist: %u calls, %u differences\n", searches, wrong_searches, lists, wrong_lists);
     return line > 0 && wrong_searches + wrong_lists == 0 ? 0 : 1;
 }
+#endif
