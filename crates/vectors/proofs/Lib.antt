@@ -1,4 +1,5 @@
 pub mod Accepted
+pub mod Kept
 pub mod Parts
 pub mod Scaled
 pub mod Table
