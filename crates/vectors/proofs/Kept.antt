@@ -1,17 +1,34 @@
 -- What the search, the sub-8x8 list and the best vectors give stays within -32767..32767: the clamp's low end is at most 0 and its high end
 -- at least -32767, so that a legal component stays legal. The context is 0..6. Assumes nothing.
 use mathlib.Core.Path.{_≡_, refl, sym, ap, _∙_}
-use mathlib.Core.Bool.{Bool, true, false, cond}
+use mathlib.Core.Bool.{Bool, true, false, _&&_, cond}
+use mathlib.Core.List.{List}
 use Prim.Native.Nat.{ℕ, zero, suc, _+_, _-_, _*_, _≤_, _<_}
 use native.Mathlib.Nat.{le-trans}
 use native.Mathlib.Omega.{arith}
-use borrow.Author.Tests.{ltb-true, le-ltb}
-use lib.Dec.{ltb}
+use borrow.Author.Tests.{eqb-true, ltb-true, le-ltb}
+use lib.Dec.{leb, ltb, eqb}
 use lib.IntN.{ℤ, pos, negsuc, negℤ, natAbs, _+ℤ_, _-ℤ_, _*ℤ_, +ℤ-idl, +ℤ-assoc, +ℤ-comm}
-use lib.Signed.{ltZ}
-use Rattle.base.specs.Number.{clip3}
-use Rattle.base.proofs.Tests.{clash}
-use Rattle.vectors.specs.MvRef.{clampPart}
+use lib.ListN.{getD}
+use lib.Signed.{ltZ, quotZ}
+use Rattle.base.specs.Answer.{answer}
+use Rattle.base.specs.Number.{between, clip3}
+use Rattle.base.specs.Position.{toN}
+use Rattle.base.specs.Vector.{mv, zeroMv, legalMv}
+use Rattle.base.specs.declared.units.Mv.{Mv}
+use Rattle.base.proofs.Bd.{abs-mul, abs-quot}
+use Rattle.base.proofs.Legal.{legal-bd, legal-row, legal-col}
+use Rattle.base.proofs.Tests.{clash, between-pos, pos-toN}
+use Rattle.candidates.specs.Tables.{Tables, gridOk}
+use Rattle.candidates.specs.Search.{context}
+use Rattle.candidates.specs.declared.geometry.MvRefGeometry.{MvRefGeometry}
+use Rattle.candidates.proofs.Anywhere.{all, anywhere}
+use Rattle.candidates.proofs.Contexts.{context-range}
+use Rattle.candidates.proofs.Grid.{grid}
+use Rattle.candidates.proofs.Within.{Small, candidates-small}
+use Rattle.vectors.specs.Sizes.{highs, wides, high, wide}
+use Rattle.vectors.specs.MvRef.{clampPart, clampRef, evened, lowered, searchRows, findMvRefs, bestRows, bestMvs}
+use Rattle.vectors.proofs.Table.{SearchOk, search-ok, best-ok}
 
 -- how far a number lies below 0
 abbrev below : ℤ → ℕ
@@ -100,3 +117,97 @@ part-kept border t n f v inside few hv =
     let cells = cells-below t n f inside in
     let high = add-below (pos 64 *ℤ (pos t -ℤ pos n -ℤ pos f)) border (64 * n) (scaled-below (pos t -ℤ pos n -ℤ pos f) n cells) in
     clip-kept (64 * f + border) _ _ v 32767 (low-is (64 * f) border) (omega (arith, high)) hv
+
+-- ---- vectors
+
+size-kept : (sizes : List ℤ) → all (between (pos 0) (pos 8)) (pos 0) sizes ≡ true → (size : ℕ)
+    → (pos (toN (getD sizes size (pos 0))) ≡ getD sizes size (pos 0)) × (toN (getD sizes size (pos 0)) ≤ 8)
+size-kept sizes test size =
+    let z = getD sizes size (pos 0) in
+    let b = between-pos 0 8 z (anywhere (between (pos 0) (pos 8)) (pos 0) sizes test size) in
+    let e = pos-toN z (b .0) in
+    (e, omega (arith, b .1, ap natAbs e))
+
+axis-kept : (border : ℕ) (total n first v : ℤ) → pos (toN total) ≡ total → pos (toN first) ≡ first → pos (toN n) ≡ n → toN n ≤ 8
+    → toN first < toN total → natAbs v ≤ 32767 → natAbs (clampPart (pos border) total n first v) ≤ 32767
+axis-kept border total n first v et ef en few inside hv =
+    rw (← et, ← ef, ← en) (part-kept border (toN total) (toN n) (toN first) v (omega arith) few hv)
+
+pub ref-kept : (border : ℕ) (g : MvRefGeometry) (v : Mv) → gridOk g ≡ true → Small v → Small (clampRef (pos border) g v)
+unfolding clampRef between
+ref-kept border g v e s =
+    let ok = grid g e in
+    let tall = size-kept highs refl (g .«mi_size») in
+    let broad = size-kept wides refl (g .«mi_size») in
+    record {
+      row = axis-kept border (g .«mi_rows») (high (g .«mi_size»)) (g .«mi_row») (v .row .0)
+          (pos-toN (g .«mi_rows») (ok .rowsUp)) (pos-toN (g .«mi_row») (ok .rowUp)) (tall .0) (tall .1) (ok .row) (s .row);
+      col = axis-kept border (g .«mi_cols») (wide (g .«mi_size»)) (g .«mi_col») (v .col .0)
+          (pos-toN (g .«mi_cols») (ok .colsUp)) (pos-toN (g .«mi_col») (ok .colUp)) (broad .0) (broad .1) (ok .col) (s .col);
+    }
+
+even-kept : (z : ℤ) → natAbs z ≤ 32767 → natAbs (evened z) ≤ 32767
+unfolding evened
+even-kept z h = omega (arith, abs-mul (quotZ z (pos 2)) (pos 2), abs-quot z 2)
+
+lowered-kept : (allowed : Bool) (v : Mv) → Small v → Small (lowered allowed v)
+unfolding lowered
+lowered-kept allowed v s =
+    by-test (allowed && ltb (natAbs (v .row .0)) 64 && ltb (natAbs (v .col .0)) 64)
+  where
+    by-test : (t : Bool) → Small (cond t v (mv (evened (v .row .0)) (evened (v .col .0))))
+    by-test true = s
+    by-test false = record { row = even-kept (v .row .0) (s .row); col = even-kept (v .col .0) (s .col) }
+
+legal-small : (v : Mv) → legalMv v ≡ true → Small v
+legal-small v e = record { row = legal-bd (v .row) (legal-row v e) .le; col = legal-bd (v .col) (legal-col v e) .le }
+
+-- ---- the three calls, accepted or refused
+
+chosen : (n : ℕ) (v : Mv) → (n ≡ 0 → Small v) → Small (cond (eqb n 0) v zeroMv)
+chosen n v f = by-test (eqb n 0) refl
+  where
+    by-test : (t : Bool) → eqb n 0 ≡ t → Small (cond t v zeroMv)
+    by-test true e = f (eqb-true n 0 e)
+    by-test false e = omega arith
+
+module _ (t : Tables) (g : MvRefGeometry) (target block : ℤ) (bias : List Bool) (on : Bool) where
+  right : Bool
+  right = leb (g .«mi_size») 12 && between (negsuc 0) (pos 3) block
+
+  accepted : answer (searchRows t g target block on) ≡ 0 → SearchOk t g target right on
+  unfolding right
+  accepted e = search-ok t g target right on e
+
+  pub find-first-kept : Small (findMvRefs t g target block bias on .first)
+  unfolding findMvRefs
+  find-first-kept =
+      chosen (answer (searchRows t g target block on)) _
+      (λ e. ref-kept 128 g _ (accepted e .call .grid) (candidates-small t g target block bias on (accepted e .legal) .first))
+
+  pub find-second-kept : Small (findMvRefs t g target block bias on .second)
+  unfolding findMvRefs
+  find-second-kept =
+      chosen (answer (searchRows t g target block on)) _
+      (λ e. ref-kept 128 g _ (accepted e .call .grid) (candidates-small t g target block bias on (accepted e .legal) .second))
+
+  pub find-context-range : findMvRefs t g target block bias on .context ≤ 6
+  unfolding findMvRefs
+  find-context-range = by-test (eqb (answer (searchRows t g target block on)) 0)
+    where
+      by-test : (b : Bool) → cond b (context t g) 0 ≤ 6
+      by-test true = context-range t g
+      by-test false = omega arith
+
+module _ (g : MvRefGeometry) (a b : Mv) (allowed : Bool) where
+  pub best-first-kept : Small (bestMvs g a b allowed .first)
+  unfolding bestMvs
+  best-first-kept =
+      chosen (answer (bestRows g a b)) _
+      (λ e. let ok = best-ok g a b e in ref-kept 1248 g _ (ok .grid) (lowered-kept allowed a (legal-small a (ok .first))))
+
+  pub best-second-kept : Small (bestMvs g a b allowed .second)
+  unfolding bestMvs
+  best-second-kept =
+      chosen (answer (bestRows g a b)) _
+      (λ e. let ok = best-ok g a b e in ref-kept 1248 g _ (ok .grid) (lowered-kept allowed b (legal-small b (ok .second))))
