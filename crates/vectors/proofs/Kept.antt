@@ -2,7 +2,7 @@
 -- at least -32767, so that a legal component stays legal. The context is 0..6. Assumes nothing.
 use mathlib.Core.Path.{_≡_, refl, sym, ap, _∙_}
 use mathlib.Core.Bool.{Bool, true, false, _&&_, cond}
-use mathlib.Core.List.{List}
+use mathlib.Core.List.{List, [], _∷_}
 use Prim.Native.Nat.{ℕ, zero, suc, _+_, _-_, _*_, _≤_, _<_}
 use native.Mathlib.Nat.{le-trans}
 use native.Mathlib.Omega.{arith}
@@ -15,20 +15,23 @@ use Rattle.base.specs.Answer.{answer}
 use Rattle.base.specs.Number.{between, clip3}
 use Rattle.base.specs.Position.{toN}
 use Rattle.base.specs.Vector.{mv, zeroMv, legalMv}
+use Rattle.base.specs.declared.units.Eighth.{Eighth}
 use Rattle.base.specs.declared.units.Mv.{Mv}
 use Rattle.base.proofs.Bd.{abs-mul, abs-quot}
 use Rattle.base.proofs.Legal.{legal-bd, legal-row, legal-col}
-use Rattle.base.proofs.Tests.{clash, between-pos, pos-toN}
+use Rattle.base.proofs.Tests.{clash, and-four, between-pos, pos-toN}
 use Rattle.candidates.specs.Tables.{Tables, gridOk}
-use Rattle.candidates.specs.Search.{context}
+use Rattle.candidates.specs.Offers.{none, offers}
+use Rattle.candidates.specs.Search.{candidates, context}
 use Rattle.candidates.specs.declared.geometry.MvRefGeometry.{MvRefGeometry}
 use Rattle.candidates.proofs.Anywhere.{all, anywhere}
 use Rattle.candidates.proofs.Contexts.{context-range}
 use Rattle.candidates.proofs.Grid.{grid}
-use Rattle.candidates.proofs.Within.{Small, candidates-small}
+use Rattle.candidates.proofs.Within.{Small, SmallPair, All, nil, cons, offers-small, none-small, candidates-small}
 use Rattle.vectors.specs.Sizes.{highs, wides, high, wide}
 use Rattle.vectors.specs.MvRef.{clampPart, clampRef, evened, lowered, searchRows, findMvRefs, bestRows, bestMvs}
-use Rattle.vectors.proofs.Table.{SearchOk, search-ok, best-ok}
+use Rattle.vectors.specs.MvRef.{subMv, legalFour, before, subList, appendRows, appendMvs}
+use Rattle.vectors.proofs.Table.{SearchOk, search-ok, best-ok, append-ok}
 
 -- how far a number lies below 0
 abbrev below : ℤ → ℕ
@@ -211,3 +214,39 @@ module _ (g : MvRefGeometry) (a b : Mv) (allowed : Bool) where
   best-second-kept =
       chosen (answer (bestRows g a b)) _
       (λ e. let ok = best-ok g a b e in ref-kept 1248 g _ (ok .grid) (lowered-kept allowed b (legal-small b (ok .second))))
+
+list-kept : (b : ℕ) (m : List (List Eighth)) (p q : Mv) → legalFour m ≡ true → Small p → Small q → SmallPair (subList b m p q)
+unfolding legalFour subList before
+list-kept b m p q e sp sq = by-block (eqb b 0)
+  where
+    each : (legalMv (subMv m 0) ≡ true) × ((legalMv (subMv m 1) ≡ true) × ((legalMv (subMv m 2) ≡ true) × (legalMv (subMv m 3) ≡ true)))
+    each = and-four (legalMv (subMv m 0)) (legalMv (subMv m 1)) (legalMv (subMv m 2)) (legalMv (subMv m 3)) e
+
+    s0 : Small (subMv m 0)
+    s0 = legal-small (subMv m 0) (each .0)
+
+    by-place : (t : Bool) → All (cond t (subMv m 0 ∷ p ∷ q ∷ []) (subMv m 2 ∷ subMv m 1 ∷ subMv m 0 ∷ p ∷ q ∷ []))
+    by-place true = cons s0 (cons sp (cons sq nil))
+    by-place false =
+        cons (legal-small (subMv m 2) (each .1 .1 .0)) (cons (legal-small (subMv m 1) (each .1 .0)) (cons s0 (cons sp (cons sq nil))))
+
+    by-block : (t : Bool) → SmallPair (cond t (record { count = 2; first = p; second = q }) (offers none (before b m (p ∷ q ∷ []))))
+    by-block true = record { first = sp; second = sq }
+    by-block false = offers-small none none-small (by-place (leb b 2))
+
+module _ (t : Tables) (g : MvRefGeometry) (target : ℤ) (b : ℕ) (m : List (List Eighth)) (bias : List Bool) (on : Bool) where
+  pair-kept : answer (appendRows t g target b m on) ≡ 0
+      → let held = candidates t g target (pos b) bias on in
+      SmallPair (subList b m (clampRef (pos 128) g (held .first)) (clampRef (pos 128) g (held .second)))
+  pair-kept e =
+      let ok = append-ok t g target b m on e in
+      let held = candidates-small t g target (pos b) bias on (ok .legal) in
+      list-kept b m _ _ (ok .four) (ref-kept 128 g _ (ok .grid) (held .first)) (ref-kept 128 g _ (ok .grid) (held .second))
+
+  pub append-first-kept : Small (appendMvs t g target b m bias on .first)
+  unfolding appendMvs
+  append-first-kept = chosen (answer (appendRows t g target b m on)) _ (λ e. pair-kept e .first)
+
+  pub append-second-kept : Small (appendMvs t g target b m bias on .second)
+  unfolding appendMvs
+  append-second-kept = chosen (answer (appendRows t g target b m on)) _ (λ e. pair-kept e .second)
