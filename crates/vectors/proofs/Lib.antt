@@ -2,4 +2,5 @@ pub mod Accepted
 pub mod Kept
 pub mod Parts
 pub mod Scaled
+pub mod SearchCalls
 pub mod Table
