@@ -2,7 +2,7 @@
 use mathlib.Core.Path.{_≡_, refl}
 use mathlib.Core.Bool.{Bool, true, false, _&&_, cond}
 use mathlib.Core.List.{[], _∷_}
-use Prim.Native.Nat.{ℕ, suc, _+_, _*_, _≤_, _<_}
+use Prim.Native.Nat.{ℕ, _+_, _*_, _≤_, _<_}
 use native.Mathlib.Nat.{mul-le-mul, mul-le-mul-right, suc-mul}
 use native.Mathlib.Omega.{arith}
 use borrow.Author.Tests.{leb-true, ltb-true}
@@ -59,6 +59,10 @@ pub record Grid (g : MvRefGeometry) : Type 0 where
   pub colsAbs : natAbs (g .«mi_cols») ≤ 8192
   pub rowAbs : natAbs (g .«mi_row») ≤ 8192
   pub colAbs : natAbs (g .«mi_col») ≤ 8192
+  pub rowsUp : T (nonNeg (g .«mi_rows»))
+  pub colsUp : T (nonNeg (g .«mi_cols»))
+  pub rowUp : T (nonNeg (g .«mi_row»))
+  pub colUp : T (nonNeg (g .«mi_col»))
   pub start : T (nonNeg (g .«mi_col_start»))
   pub end : toN (g .«mi_col_end») ≤ toN (g .«mi_cols»)
 
@@ -89,6 +93,10 @@ grid g e =
       colsAbs = between-pos 1 8192 cols (test 1) .1;
       rowAbs = omega (arith, abs-toN (g .«mi_row») top);
       colAbs = omega (arith, abs-toN (g .«mi_col») left);
+      rowsUp = between-pos 1 8192 rows (test 0) .0;
+      colsUp = between-pos 1 8192 cols (test 1) .0;
+      rowUp = top;
+      colUp = left;
       start = start;
       end = past;
     }

@@ -11,7 +11,7 @@ use Rattle.base.specs.Position.{toN}
 use Rattle.base.specs.Vector.{mv, zeroMv, sameMv}
 use Rattle.base.specs.declared.units.Mv.{Mv}
 use Rattle.candidates.specs.Places.{columns}
-use Rattle.candidates.specs.Tables.{frameAt, mvAt, subAt}
+use Rattle.candidates.specs.Tables.{frameAt, mvAt}
 use Rattle.candidates.specs.declared.held.Held.{Held}
 
 abbrev pub none : Held

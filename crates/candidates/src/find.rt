@@ -1,10 +1,8 @@
 // The search: document 01, 'Vectors', 1 to 3.
 ghost use mathlib.Core.Bool.{true};
-ghost use mathlib.Core.List.{[]};
 ghost use mathlib.Core.Path.{_≡_};
 ghost use Prim.Native.Nat.{_+_, _≤_, _<_};
 ghost use lib.IntN.{pos, negsuc};
-ghost use lib.ListN.{getD};
 ghost use Rattle.base.specs.Number.{between};
 ghost use Rattle.candidates.specs.Places as Places;
 ghost use Rattle.candidates.specs.Tables as Tables;

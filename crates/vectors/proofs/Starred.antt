@@ -1,7 +1,6 @@
 -- Each of the starred examples about vectors comes out as document 01 says. Assumes nothing.
 use mathlib.Core.Path.{_≡_, refl}
 use mathlib.Core.List as L
-use lib.IntN.{ℤ}
 use Rattle.base.specs.Answer.{unless}
 use Rattle.base.specs.Example.{Example}
 use Rattle.base.specs.Number.{between, clip3}

@@ -1,6 +1,6 @@
 -- The search with its clamp, the sub-8x8 list, the best vectors: document 01, 'Vectors' (the standard's 6.5.1 to 6.5.14). Assumes nothing.
-use Prim.Native.Nat.{ℕ, _<_}
-use mathlib.Core.Bool.{Bool, true, _&&_, cond}
+use Prim.Native.Nat.{ℕ}
+use mathlib.Core.Bool.{Bool, _&&_, cond}
 use mathlib.Core.List.{List, [], _∷_}
 use lib.Dec.{leb, ltb, eqb}
 use lib.IntN.{ℤ, pos, negsuc, natAbs, _+ℤ_, _-ℤ_, _*ℤ_}

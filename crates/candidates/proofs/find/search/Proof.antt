@@ -1,15 +1,14 @@
 -- `candidates::search` meets its contract: its steps are the definition's, one after the other. Assumes nothing.
-use mathlib.Core.Path.{_≡_, refl, sym, ap, _∙_}
-use mathlib.Core.Bool.{true, false}
+use mathlib.Core.Path.{_≡_, refl, sym, _∙_}
+use mathlib.Core.Bool.{true}
 use mathlib.Core.List.{List, []}
 use Prim.Native.Nat.{ℕ}
 use native.Mathlib.Omega.{arith}
 use borrow.Author.Needs.{needs}
 use lib.IntN.{ℤ}
 use Rattle.candidates.specs.Tables.{Tables, tables, gridOk, spot}
-use Rattle.candidates.specs.Offers.{none, offers}
-use Rattle.candidates.specs.Search.{counted, context, candidates}
-use Rattle.candidates.specs.Scan.{cells, Room, Pairs, Subs, ModeAt, SubsAt, contextAt, found}
+use Rattle.candidates.specs.Search.{counted, context}
+use Rattle.candidates.specs.Scan.{cells, Room, ModeAt, SubsAt, contextAt, found}
 use Rattle.candidates.specs.declared.geometry.MvRefGeometry.{MvRefGeometry}
 use Rattle.candidates.specs.declared.geometry.Spot.{Spot}
 use Rattle.candidates.specs.declared.geometry.Spot.the-variants.{Out, Cell}

@@ -1,8 +1,7 @@
 -- `candidates::sub_place` meets its contract, arm by arm. Assumes nothing.
-use mathlib.Core.Path.{_∙_}
 use borrow.Author.Needs.{needs}
 use Rattle.candidates.specs.Offers.{offers}
-use Rattle.candidates.specs.Scan.{SubsAt, subPlaceAt, subRecord}
+use Rattle.candidates.specs.Scan.{SubsAt, subPlaceAt}
 use Rattle.candidates.proofs.Fit.{back}
 use Rattle.candidates.proofs.find.sub_place.Statement.{statement}
 use Rattle.candidates.proofs.find.sub_place.Tie as tie

@@ -1,5 +1,5 @@
 -- `candidates::sub_record` meets its contract: the first list of the target frame offers. Assumes nothing.
-use mathlib.Core.Path.{_≡_, _∙_}
+use mathlib.Core.Path.{_≡_}
 use mathlib.Core.Bool.{true, false}
 use borrow.Author.Needs.{needs}
 use mir.Syntax.{w32}

@@ -1,6 +1,5 @@
 -- `candidates::spot_at` meets its contract, arm by arm. Assumes nothing.
-use mathlib.Core.Path.{_≡_, sym, ap, _∙_}
-use mathlib.Core.Bool.{true}
+use mathlib.Core.Path.{_≡_, sym, _∙_}
 use borrow.Author.Needs.{needs}
 use Rattle.candidates.specs.Tables.{inside, spotAt}
 use Rattle.candidates.proofs.Fit.{back}

@@ -1,7 +1,6 @@
 -- `candidates::column_of` meets its contract: `==` compares bits. Assumes nothing.
 use native.Mathlib.Omega.{arith}
 use lib.IntN.{pos}
-use lib.Dec.{lit<}
 use mir.Syntax.{w32}
 use mir.Val.{SFits}
 use Rattle.base.proofs.Bits.{equal-yes, equal-no}

@@ -1,20 +1,18 @@
 -- `candidates::sub_number` meets its contract: the code's table is the definition's, and its entries are below four. Assumes nothing.
-use mathlib.Core.Path.{_≡_, _∙_, ap, refl}
-use mathlib.Core.Bool.{true}
+use mathlib.Core.Path.{_∙_, ap}
 use Prim.Native.Nat.{_≤_}
 use native.Mathlib.Omega.{arith}
 use borrow.Author.Needs.{needs}
 use lib.IntN.{pos, negsuc}
 use lib.Signed.{leZ}
 use Rattle.base.specs.Number.{between}
-use Rattle.base.specs.Position.{toN}
 use Rattle.base.proofs.Tests.{and-right}
 use Rattle.candidates.specs.Places.{columns}
 use Rattle.candidates.specs.Offers.{subNumber}
 use Rattle.candidates.specs.Scan.{column}
 use Rattle.candidates.proofs.Fit.{back, natural-of}
 use Rattle.candidates.proofs.Grid.{le-toN}
-use Rattle.candidates.proofs.Numbers.{column-small, entry-small, number-small}
+use Rattle.candidates.proofs.Numbers.{column-small, entry-small}
 use Rattle.candidates.proofs.places.sub_number.Statement.{statement}
 use Rattle.candidates.proofs.places.sub_number.Tie as tie
 

@@ -1,5 +1,4 @@
 -- `candidates::legal_frame` meets its contract, which is `between`'s of the frame. Assumes nothing.
-use mathlib.Core.Path.{_≡_, _∙_}
 use borrow.Author.Needs.{needs}
 use Rattle.candidates.specs.Records.{legalFrame}
 use Rattle.candidates.proofs.Fit.{back}

@@ -1,5 +1,5 @@
 -- `candidates::legal_parts` meets its contract. Invariant: ok says whether the first j components are legal. Assumes nothing.
-use mathlib.Core.Path.{_≡_, refl, sym, ap, _∙_}
+use mathlib.Core.Path.{_≡_, refl, ap, _∙_}
 use Prim.Native.Nat.{_≤_, _-_, _+_}
 use native.Mathlib.Numerals.{add-one}
 use native.Mathlib.Omega.{arith}
@@ -8,7 +8,7 @@ use lib.IntN.{pos}
 use lib.ListN.{getD}
 use mir.Syntax.{w16}
 use mir.Facts.{toZ-ofZ}
-use Rattle.candidates.specs.Records.{legalPart, legalParts}
+use Rattle.candidates.specs.Records.{legalParts}
 use Rattle.candidates.proofs.records.legal_parts.Statement.{statement}
 use Rattle.candidates.proofs.records.legal_parts.Tie as tie
 

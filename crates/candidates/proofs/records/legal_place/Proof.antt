@@ -1,5 +1,5 @@
 -- `candidates::legal_place` meets its contract: the cell of a place is a cell of the frame. Assumes nothing.
-use mathlib.Core.Path.{_≡_, sym, _∙_}
+use mathlib.Core.Path.{sym, _∙_}
 use native.Mathlib.Omega.{arith}
 use borrow.Author.Needs.{needs}
 use Rattle.candidates.specs.Records.{legalSpot}

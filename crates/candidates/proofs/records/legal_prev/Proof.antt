@@ -1,9 +1,7 @@
 -- `candidates::legal_prev` meets its contract: the block's own cell is a cell of the frame. Assumes nothing.
-use mathlib.Core.Path.{_≡_, _∙_, ap}
 use native.Mathlib.Omega.{arith}
 use borrow.Author.Needs.{needs}
-use Rattle.candidates.specs.Records.{legalPair}
-use Rattle.candidates.specs.Scan.{PrevRoom, legalPrev, cells}
+use Rattle.candidates.specs.Scan.{PrevRoom, legalPrev}
 use Rattle.candidates.specs.Tables.{own}
 use Rattle.candidates.proofs.Grid.{own-in}
 use Rattle.candidates.proofs.records.legal_prev.Statement.{statement}

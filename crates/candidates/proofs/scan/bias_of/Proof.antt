@@ -1,5 +1,5 @@
 -- `candidates::bias_of` meets its contract; past the frames there is no bias. Assumes nothing.
-use mathlib.Core.Path.{_≡_, sym}
+use mathlib.Core.Path.{sym}
 use mathlib.Core.Bool.{false}
 use borrow.Author.Needs.{needs}
 use lib.ListN.{List·getD-eq-default}

@@ -1,7 +1,5 @@
 -- `candidates::fits` meets its contract: `==` compares bits. Assumes nothing.
-use mathlib.Core.Path.{_≡_}
 use native.Mathlib.Omega.{arith}
-use lib.IntN.{ℤ}
 use mir.Syntax.{w32}
 use mir.Val.{SFits}
 use Rattle.base.proofs.Bits.{eqb-bits}

@@ -1,5 +1,5 @@
 -- `candidates::offered` meets its contract, which is `turned`'s of what was read. Assumes nothing.
-use mathlib.Core.Path.{_≡_, _∙_}
+use mathlib.Core.Path.{_∙_}
 use borrow.Author.Needs.{needs}
 use Rattle.candidates.specs.Scan.{offered}
 use Rattle.candidates.proofs.Fit.{back}

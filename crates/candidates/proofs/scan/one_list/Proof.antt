@@ -1,5 +1,5 @@
 -- `candidates::one_list` meets its contract, arm by arm. Assumes nothing.
-use mathlib.Core.Path.{_≡_, sym, _∙_}
+use mathlib.Core.Path.{sym, _∙_}
 use borrow.Author.Needs.{needs}
 use Rattle.candidates.specs.Offers.{offers}
 use Rattle.candidates.specs.Scan.{listOf}

@@ -1,6 +1,6 @@
 -- `candidates::previous` meets its contract: the block's own cell is a cell of the frame. Assumes nothing.
 use mathlib.Core.List.{append-nil}
-use mathlib.Core.Path.{_≡_, sym, _∙_}
+use mathlib.Core.Path.{sym, _∙_}
 use Prim.Native.Nat.{_+_}
 use native.Mathlib.Omega.{arith}
 use borrow.Author.Needs.{needs}

@@ -1,7 +1,7 @@
 -- `candidates::scan` meets its contract, though it leaves both loops once two are held. Invariant of either loop: the fold of what its
 -- remaining places, or lists, offer, from what is held now, is the fold of all of them from what was held at first. Assumes nothing.
 use mathlib.Core.Path.{_≡_, refl, sym, _∙_}
-use mathlib.Core.Bool.{Bool, true, false}
+use mathlib.Core.Bool.{true, false}
 use mathlib.Core.List.{List}
 use mathlib.Core.Logic.{⊎-elim}
 use Prim.Native.Nat.{ℕ, _+_, _-_, _≤_}
@@ -13,7 +13,6 @@ use Rattle.candidates.specs.Tables.{spot}
 use Rattle.candidates.specs.Offers.{offer, offers, run}
 use Rattle.candidates.specs.Scan.{Pairs, asked, offered, listOf, placeOf}
 use Rattle.candidates.specs.declared.geometry.MvRefGeometry.{MvRefGeometry}
-use Rattle.candidates.specs.declared.geometry.Spot.{Spot}
 use Rattle.candidates.specs.declared.geometry.Spot.the-variants.{Out, Cell}
 use Rattle.candidates.specs.declared.held.Held.{Held}
 use Rattle.candidates.specs.declared.scan.Ask.{Ask}

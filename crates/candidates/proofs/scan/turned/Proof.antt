@@ -1,5 +1,5 @@
 -- `candidates::turned` meets its contract, arm by arm. Assumes nothing.
-use mathlib.Core.Path.{_≡_, sym, _∙_}
+use mathlib.Core.Path.{_≡_, _∙_}
 use mathlib.Core.Bool.{Bool·beq}
 use native.Mathlib.Omega.{arith}
 use borrow.Author.Needs.{needs}

@@ -1,9 +1,6 @@
 -- `candidates::frame_at` meets its contract: the element is carried over to 32 bits. Assumes nothing.
 use mathlib.Core.Path.{_∙_}
-use Prim.Native.Nat.{_+_, _*_}
 use borrow.Author.Needs.{needs}
-use lib.IntN.{pos}
-use lib.ListN.{getD}
 use mir.Syntax.{w8}
 use mir.Facts.{toZ-ofZ}
 use Rattle.candidates.proofs.Fit.{back}

@@ -1,5 +1,5 @@
 -- `candidates::vector_at` meets its contract: each component is carried over to 32 bits. Assumes nothing.
-use mathlib.Core.Path.{_≡_, _∙_}
+use mathlib.Core.Path.{_∙_}
 use Prim.Native.Nat.{_+_, _^_, _<_}
 use native.Mathlib.Omega.{arith}
 use borrow.Author.Needs.{needs}

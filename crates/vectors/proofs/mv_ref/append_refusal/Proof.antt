@@ -1,6 +1,6 @@
 -- `append_refusal` meets its contract: row 9 is asked where the search's rows pass. Assumes nothing.
 use mathlib.Core.Path.{_≡_, refl, sym, _∙_}
-use mathlib.Core.Bool.{Bool, _&&_}
+use mathlib.Core.Bool.{_&&_}
 use mathlib.Core.List.{List, [], _∷_}
 use borrow.Author.Tests.{leb-true}
 use borrow.Author.Needs.{needs}

@@ -1,18 +1,15 @@
 -- `append_sub8x8_mvs` meets its contract: refused by the table, or the list made of the clamped pair. Assumes nothing.
-use mathlib.Core.Path.{_≡_, refl, sym, _∙_}
-use mathlib.Core.Bool.{Bool, true, _&&_}
+use mathlib.Core.Path.{_≡_, sym, _∙_}
 use Prim.Native.Nat.{_≤_}
 use native.Mathlib.Omega.{arith}
 use borrow.Author.Tests.{leb-true, ne-eqb}
 use borrow.Author.Needs.{needs}
-use lib.Dec.{leb}
-use lib.IntN.{pos, negsuc}
+use lib.IntN.{pos}
 use mir.Syntax.{w32}
 use mir.Val.{toZ}
 use mir.Facts.{toZ-ofZ, toZ-pos}
 use Rattle.base.specs.Answer.{answer}
 use Rattle.base.specs.Number.{between}
-use Rattle.base.proofs.Tests.{and-left, and-right}
 use Rattle.candidates.specs.Tables.{Tables, tables}
 use Rattle.candidates.specs.Scan.{found}
 use Rattle.vectors.specs.MvRef.{appendRows, appendMvs}

@@ -1,5 +1,5 @@
 -- `before` meets its contract, arm by arm. Assumes nothing.
-use mathlib.Core.Path.{_≡_, _∙_}
+use mathlib.Core.Path.{_∙_}
 use borrow.Author.Tests.{le-leb, lt-leb}
 use borrow.Author.Needs.{needs}
 use Rattle.candidates.specs.Offers.{offers}

@@ -1,5 +1,4 @@
 -- `best_refusal` meets its contract: the code asks the rows of the table in their order. Assumes nothing.
-use mathlib.Core.Path.{_≡_}
 use borrow.Author.Needs.{needs}
 use Rattle.vectors.proofs.mv_ref.best_refusal.Statement.{statement}
 use Rattle.vectors.proofs.mv_ref.best_refusal.Tie as tie

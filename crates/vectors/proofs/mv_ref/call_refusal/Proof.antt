@@ -1,5 +1,4 @@
 -- `call_refusal` meets its contract: the code asks the rows of the table in their order. Assumes nothing.
-use mathlib.Core.Path.{_≡_}
 use borrow.Author.Needs.{needs}
 use mir.Facts.{toZ-ofZ}
 use Rattle.vectors.proofs.mv_ref.call_refusal.Statement.{statement}

@@ -1,5 +1,4 @@
 -- `clamp_part` meets its contract: no step of either end wraps. Assumes nothing.
-use mathlib.Core.Path.{_≡_, _∙_}
 use native.Mathlib.Omega.{arith}
 use borrow.Author.Needs.{needs}
 use lib.IntN.{pos}

@@ -1,5 +1,4 @@
 -- `clamp_ref` meets its contract: both axes are clamped. Assumes nothing.
-use mathlib.Core.Path.{_≡_, _∙_}
 use borrow.Author.Needs.{needs}
 use mir.Syntax.{w32}
 use Rattle.base.proofs.Bd.{Bd, bd, rd}

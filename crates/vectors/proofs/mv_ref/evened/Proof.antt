@@ -1,5 +1,4 @@
 -- `evened` meets its contract: neither step wraps. Assumes nothing.
-use mathlib.Core.Path.{_≡_}
 use native.Mathlib.Omega.{arith}
 use lib.IntN.{pos}
 use mir.Syntax.{w32}

@@ -1,8 +1,7 @@
 -- `find_best_ref_mvs` meets its contract: refused by the table, or both vectors lowered and clamped. Assumes nothing.
 use mathlib.Core.Path.{_≡_, sym, _∙_}
-use mathlib.Core.Bool.{true}
 use native.Mathlib.Omega.{arith}
-use borrow.Author.Tests.{leb-true, ne-eqb}
+use borrow.Author.Tests.{ne-eqb}
 use borrow.Author.Needs.{needs}
 use Rattle.base.specs.Answer.{answer}
 use Rattle.vectors.specs.MvRef.{bestRows, bestMvs}

@@ -1,5 +1,4 @@
 -- `is_legal_four` meets its contract: all four vectors are judged. Assumes nothing.
-use mathlib.Core.Path.{_≡_}
 use borrow.Author.Needs.{needs}
 use Rattle.vectors.specs.MvRef.{legalFour}
 use Rattle.vectors.proofs.mv_ref.is_legal_four.Statement.{statement}

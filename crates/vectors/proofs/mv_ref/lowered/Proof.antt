@@ -1,5 +1,4 @@
 -- `lowered` meets its contract, arm by arm. Assumes nothing.
-use mathlib.Core.Path.{_≡_, sym, _∙_}
 use borrow.Author.Needs.{needs}
 use Rattle.base.proofs.Legal.{legal-row, legal-col}
 use Rattle.vectors.specs.MvRef.{lowered}

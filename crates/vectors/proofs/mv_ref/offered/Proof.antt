@@ -1,5 +1,5 @@
 -- `offered` meets its contract: one offer after the other. Assumes nothing.
-use mathlib.Core.Path.{_≡_, _∙_}
+use mathlib.Core.Path.{_∙_}
 use borrow.Author.Needs.{needs}
 use Rattle.candidates.specs.Offers.{offers}
 use Rattle.vectors.proofs.mv_ref.offered.Statement.{statement}
