@@ -7,8 +7,8 @@ use Rattle.base.specs.Number.{between, clip3}
 use Rattle.vectors.specs.Select.{halved, quartered}
 use Rattle.vectors.specs.Scale.{scaleOf, lumaOf, fracOf, startOf, stepOf, sized, allowed, usable, placed, legal16, startAxis, stepAxis}
 use Rattle.vectors.specs.MvRef.{clampPart}
-use Rattle.vectors.specs.Starred.{vectorExamples}
+use Rattle.vectors.specs.Starred.{vectorRows}
 
-pub vector-examples : L.map (λ (e : Example). e .gives) vectorExamples ≡ L.map (λ (e : Example). e .says) vectorExamples
-unfolding vectorExamples halved quartered clampPart clip3 between unless scaleOf lumaOf fracOf startOf stepOf sized allowed usable placed legal16 startAxis stepAxis
+pub vector-examples : L.map (λ (e : Example). e .gives) vectorRows ≡ L.map (λ (e : Example). e .says) vectorRows
+unfolding vectorRows halved quartered clampPart clip3 between unless scaleOf lumaOf fracOf startOf stepOf sized allowed usable placed legal16 startAxis stepAxis
 vector-examples = refl

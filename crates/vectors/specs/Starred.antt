@@ -27,8 +27,8 @@ sizes reference frame =
 abbrev asked : ℤ → ℤ → ℤ
 asked reference frame = pos (answer (scaleRows (sizes reference frame) 0 (pos 0) (pos 0) (planeMv (pos 0) (pos 0))))
 
-unfoldable pub vectorExamples : List Example
-vectorExamples =
+unfoldable pub vectorRows : List Example
+vectorRows =
     -- Halving: -3, -2, -1, 0, 1, 2, 3
     example
     (L.map halved (negsuc 2 ∷ negsuc 1 ∷ negsuc 0 ∷ pos 0 ∷ pos 1 ∷ pos 2 ∷ pos 3 ∷ []))
