@@ -1,8 +1,9 @@
 /* Replays the searches (M) and sub-8x8 lists (A) of a decoder's trace, read from standard input, through the compiled library. The lines of
  * the format are told in the traces' own FORMAT.md. A line a kind: 'search: N calls, D differences', ..; exit status 1 if anything differs.
  *
- * Built with MEASURE (tools/speed-traces does), 'SIDE TIMES' makes each search TIMES times and compares nothing: SIDE is ours, rust, or judged
- * (ours with the record that is judged last made illegal, so that the call ends when all records have been judged).
+ * Built with MEASURE (tools/speed-traces does), 'SIDE TIMES' makes each search TIMES times and compares nothing: SIDE is ours, rust, judged
+ * (ours with the record that is judged last made illegal, so that the call ends when all records have been judged) or short (ours with a
+ * table one short, so that the call ends before a record is judged).
  */
 #include <stdbool.h>
 #include <stdint.h>
@@ -127,21 +128,10 @@ static bool search_agrees(void) {
 }
 
 #ifdef MEASURE
-struct search {
-    int32_t mi_row, mi_col, mi_rows, mi_cols, tile_start, tile_end, target, block;
-    size_t size;
-    bool sign_bias[4], use_prev;
-    const uint8_t *modes;
-    const int8_t *frames;
-    const int16_t *vectors, *sub_vectors;
-    const int8_t *prev_frames;
-    const int16_t *prev_vectors;
-};
+#include "rust_search.h"
 
-void rust_find_mv_refs(const struct search *, int32_t out[5]);
-
-static knobspindle_mv_refs ours(void) {
-    return knobspindle_find_mv_refs(modes, a.cells, frames, 2 * a.cells, mvs, 4 * a.cells, subs, 16 * a.cells, prev_frames, 2 * a.cells,
+static knobspindle_mv_refs ours(size_t lent) {
+    return knobspindle_find_mv_refs(modes, lent, frames, 2 * a.cells, mvs, 4 * a.cells, subs, 16 * a.cells, prev_frames, 2 * a.cells,
                                     prev_mvs, 4 * a.cells, a.g, a.target, a.block, a.bias, a.use_prev);
 }
 
@@ -159,9 +149,10 @@ static bool measured(char side, int times) {
     if (!last) return false;
     int8_t kept = *last;
     if (side == 'j') *last = 4;
+    uint32_t want = side == 'j' ? KNOBSPINDLE_RECORD : side == 's' ? KNOBSPINDLE_SHORT : KNOBSPINDLE_ACCEPTED;
     for (int i = 0; i < times; i++) {
         if (side == 'r') rust();
-        else if (ours().answer != (side == 'j' ? KNOBSPINDLE_RECORD : KNOBSPINDLE_ACCEPTED)) printf("trace: a measured call answered otherwise\n");
+        else if (ours(a.cells - (side == 's')).answer != want) printf("trace: a measured call answered otherwise\n");
     }
     *last = kept;
     return true;

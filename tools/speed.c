@@ -5,6 +5,7 @@
  *   speed N SIDE REPS  case N on one side (ours or rust), REPS times
  */
 #include "knobspindle.h"
+#include "rust_search.h"
 #include <stdio.h>
 #include <stdlib.h>
 #include <string.h>
@@ -34,17 +35,6 @@ struct scale {
     bool sub_x, sub_y;
 };
 
-struct search {
-    int32_t mi_row, mi_col, mi_rows, mi_cols, tile_start, tile_end, target, block;
-    size_t size;
-    bool sign_bias[4], use_prev;
-    const uint8_t *modes;
-    const int8_t *frames;
-    const int16_t *vectors, *sub_vectors;
-    const int8_t *prev_frames;
-    const int16_t *prev_vectors;
-};
-
 struct reference {
     int32_t width, height;
     size_t stride;
@@ -64,7 +54,6 @@ struct block {
 void rust_select_mv(const struct select *, int32_t out[2]);
 void rust_clamp_mv(const struct clamp *, int32_t out[2]);
 void rust_scale_mv(const struct scale *, int32_t out[4]);
-void rust_find_mv_refs(const struct search *, int32_t out[5]);
 void rust_block_inter_predict(const struct block *, int32_t room[64 * 71], int32_t beside[64 * 64]);
 
 /* ---- one case at a time: its arguments, and what each side gave */
