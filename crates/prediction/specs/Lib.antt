@@ -1,2 +1,3 @@
 pub mod Cut
 pub mod Predict
+pub mod Starred

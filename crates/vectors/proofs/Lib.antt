@@ -4,5 +4,4 @@ pub mod Kept
 pub mod Parts
 pub mod Scaled
 pub mod SearchCalls
-pub mod Starred
 pub mod Table
