@@ -1,3 +1,4 @@
 pub mod Cutting
 pub mod Instance
+pub mod Outcomes
 pub mod Starred
