@@ -63,25 +63,6 @@ value-is a q n m i e r c =
       two = λ y. piece-of (q .call .shape) (a .two) (q .call .two) (q .r0) (q .c0) (i .two y) (t .two (i .average ∙ y));
     })
 
--- the rectangle has the sample that stands at row s and column d of it
-record At (q : Part) (r c : ℕ) : Type 0 where
-  s : ℕ
-  d : ℕ
-  row : q .r0 + s ≡ r
-  col : q .c0 + d ≡ c
-  sh : s < q .call .shape .h
-  dw : d < q .call .shape .w
-
-at : (q : Part) (r c : ℕ) → has q r c ≡ true → At q r c
-unfolding has
-at q r c e =
-    let t = and-four (leb (q .r0) r) (ltb r (q .r0 + q .call .shape .h)) (leb (q .c0) c) (ltb c (q .c0 + q .call .shape .w)) e in
-    let top = leb-true (q .r0) r (t .0) in
-    let bottom = ltb-true r (q .r0 + q .call .shape .h) (t .1 .0) in
-    let left = leb-true (q .c0) c (t .1 .1 .0) in
-    let right = ltb-true c (q .c0 + q .call .shape .w) (t .1 .1 .1) in
-    record { s = r - q .r0; d = c - q .c0; row = omega arith; col = omega arith; sh = omega arith; dw = omega arith }
-
 -- what one call did, on the output from the rectangle's first sample on
 module _ (a : Call) (q : Part) (out room got room' : List ℕ) (fit : Room a (length out)) (i : Within a q)
     (o : Outcome (q .call) (drop (first (a .stride) q) out) room 0 got room') where
@@ -133,7 +114,7 @@ module _ (a : Call) (q : Part) (out room got room' : List ℕ) (fit : Room a (le
       ap (λ (l : List ℕ). getD l j 0) now-is
       ∙ part-else out start (a .stride) _ _ _ inside j (λ s d sh dw e. away s d sh dw (omega arith))
 
--- a place is one of the rectangle's, or none of them
+-- place j is that of row s and column d of the rectangle
 record Of (stride : ℕ) (q : Part) (j : ℕ) : Type 0 where
   s : ℕ
   d : ℕ
@@ -141,6 +122,7 @@ record Of (stride : ℕ) (q : Part) (j : ℕ) : Type 0 where
   dw : d < q .call .shape .w
   is : j ≡ (q .r0 + s) * stride + (q .c0 + d)
 
+-- a place is one of the rectangle's, or none of them
 of : (stride : ℕ) (q : Part) (j : ℕ)
     → Of stride q j ⊎ ((s d : ℕ) → s < q .call .shape .h → d < q .call .shape .w → j ≢ (q .r0 + s) * stride + (q .c0 + d))
 of stride q j =
@@ -151,6 +133,24 @@ of stride q j =
     (λ away. inr (λ s d sh dw e. away s d sh dw (omega arith)))
     (find stride (q .call .shape .w) (q .call .shape .h) (j - first stride q)))
     (lt-or-ge j (first stride q))
+
+-- the place of a sample that the rectangle has
+of-has : (stride : ℕ) (q : Part) (r c : ℕ) → has q r c ≡ true → Of stride q (r * stride + c)
+unfolding has
+of-has stride q r c e =
+    let t = and-four (leb (q .r0) r) (ltb r (q .r0 + q .call .shape .h)) (leb (q .c0) c) (ltb c (q .c0 + q .call .shape .w)) e in
+    let top = leb-true (q .r0) r (t .0) in
+    let bottom = ltb-true r (q .r0 + q .call .shape .h) (t .1 .0) in
+    let left = leb-true (q .c0) c (t .1 .1 .0) in
+    let right = ltb-true c (q .c0 + q .call .shape .w) (t .1 .1 .1) in
+    let down : r ≡ q .r0 + (r - q .r0) = omega arith in
+    record {
+      s = r - q .r0;
+      d = c - q .c0;
+      sh = omega arith;
+      dw = omega arith;
+      is = omega (arith, ap (λ (k : ℕ). k * stride) down);
+    }
 
 -- ---- the calls, one after the other
 
@@ -166,40 +166,33 @@ one-more q qs r c p = by-test (has q r c) refl p
 -- `whole` has the block's samples at the block's places: what the uncut call leaves
 module _ (a : Call) (n : ℕ) (fit : Room a n) (whole : List ℕ)
     (right : (r c : ℕ) → r < a .shape .h → c < a .shape .w → getD whole (r * a .stride + c) 0 ≡ value a r c) where
-  -- what a place has already of the uncut call's stays, or is put there anew
+  -- a call puts at the rectangle's places what the uncut one puts there
+  step-put : (q : Part) (out room got room' : List ℕ) → length out ≡ n → Within a q
+      → Outcome (q .call) (drop (first (a .stride) q) out) room 0 got room'
+      → (j : ℕ) → Of (a .stride) q j → getD (take (first (a .stride) q) out ++ got) j 0 ≡ getD whole j 0
+  step-put q out room got room' e i o j p =
+      rw (p .is)
+      (now-at a q out room got room' (subst (Room a) (sym e) fit) i o (p .s) (p .d) (p .sh) (p .dw)
+      ∙ sym (right (q .r0 + p .s) (q .c0 + p .d) (omega (arith, i .rows, p .sh)) (omega (arith, i .cols, p .dw))))
+
+  -- so that what a place has already of the uncut call's stays
   step-kept : (q : Part) (out room got room' : List ℕ) → length out ≡ n → Within a q
       → Outcome (q .call) (drop (first (a .stride) q) out) room 0 got room'
       → (j : ℕ) → getD out j 0 ≡ getD whole j 0 → getD (take (first (a .stride) q) out ++ got) j 0 ≡ getD whole j 0
   step-kept q out room got room' e i o j same =
-      let f = subst (Room a) (sym e) fit in
       ⊎-elim
-      (λ p. rw (p .is)
-      (now-at a q out room got room' f i o (p .s) (p .d) (p .sh) (p .dw)
-      ∙ sym (right (q .r0 + p .s) (q .c0 + p .d) (omega (arith, i .rows, p .sh)) (omega (arith, i .cols, p .dw)))))
-      (λ away. now-else a q out room got room' f i o j away ∙ same)
+      (λ p. step-put q out room got room' e i o j p)
+      (λ away. now-else a q out room got room' (subst (Room a) (sym e) fit) i o j away ∙ same)
       (of (a .stride) q j)
 
   kept : {qs : List Part} {out last : List ℕ} → length out ≡ n → Each (Within a) qs → Made (a .stride) qs out last
       → (j : ℕ) → getD out j 0 ≡ getD whole j 0 → getD last j 0 ≡ getD whole j 0
   kept e i done j same = same
   kept e i (next {q = q} {out = out} room got room' o m) j same =
-      let f = subst (Room a) (sym e) fit in
-      kept (now-length a q out room got room' f (i .0) o ∙ e) (i .1) m j (step-kept q out room got room' e (i .0) o j same)
+      let size = now-length a q out room got room' (subst (Room a) (sym e) fit) (i .0) o ∙ e in
+      kept size (i .1) m j (step-kept q out room got room' e (i .0) o j same)
 
-  -- each sample of a rectangle is reached
-  step-reached : (q : Part) (out room got room' : List ℕ) → length out ≡ n → Within a q
-      → Outcome (q .call) (drop (first (a .stride) q) out) room 0 got room'
-      → (r c : ℕ) → has q r c ≡ true → getD (take (first (a .stride) q) out ++ got) (r * a .stride + c) 0 ≡ getD whole (r * a .stride + c) 0
-  step-reached q out room got room' e i o r c h =
-      let p = at q r c h in
-      let f = subst (Room a) (sym e) fit in
-      let j : r * a .stride + c ≡ (q .r0 + p .s) * a .stride + (q .c0 + p .d)
-      = omega (arith, p .col, ap (λ (k : ℕ). k * a .stride) (p .row)) in
-      ap (λ (k : ℕ). getD (take (first (a .stride) q) out ++ got) k 0) j
-      ∙ now-at a q out room got room' f i o (p .s) (p .d) (p .sh) (p .dw)
-      ∙ sym (right (q .r0 + p .s) (q .c0 + p .d) (omega (arith, i .rows, p .sh)) (omega (arith, i .cols, p .dw)))
-      ∙ ap (λ (k : ℕ). getD whole k 0) (sym j)
-
+  -- and each sample of a rectangle is reached
   reached : {qs : List Part} {out last : List ℕ} → length out ≡ n → Each (Within a) qs → Made (a .stride) qs out last
       → (r c : ℕ) → 0 < count qs r c → getD last (r * a .stride + c) 0 ≡ getD whole (r * a .stride + c) 0
   unfolding count
@@ -207,7 +200,7 @@ module _ (a : Call) (n : ℕ) (fit : Room a n) (whole : List ℕ)
   reached e i (next {q = q} {qs = qs} {out = out} room got room' o m) r c p =
       let size = now-length a q out room got room' (subst (Room a) (sym e) fit) (i .0) o ∙ e in
       ⊎-elim
-      (λ h. kept size (i .1) m (r * a .stride + c) (step-reached q out room got room' e (i .0) o r c h))
+      (λ h. kept size (i .1) m (r * a .stride + c) (step-put q out room got room' e (i .0) o (r * a .stride + c) (of-has (a .stride) q r c h)))
       (λ later. reached size (i .1) m r c later)
       (one-more q qs r c p)
 
