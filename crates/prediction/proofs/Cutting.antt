@@ -27,7 +27,6 @@ use Rattle.prediction.specs.Cut.{Part, Onward, Within, Each, has, count,
 
 -- rows lie far enough apart, and the last one fits n numbers
 record Room (a : Call) (n : ℕ) : Type 0 where
-  wide : 1 ≤ a .shape .w
   high : 1 ≤ a .shape .h
   apart : a .shape .w ≤ a .stride
   long : (a .shape .h - 1) * a .stride + a .shape .w ≤ n
@@ -37,11 +36,13 @@ room-of a n m e =
     let t = accepted a n m e in
     let f = legal-says (a .shape) (a .one) (t .one) in
     record {
-      wide = f .w .0;
       high = f .h .0;
       apart = t .apart;
       long = holds-row (a .shape .h) (a .stride) (a .shape .w) n (a .shape .h - 1) (t .out) (omega (arith, f .h));
     }
+
+refit : {a : Call} {m n : ℕ} → Room a n → m ≡ n → Room a m
+refit {a = a} fit e = subst (Room a) (sym e) fit
 
 -- ---- a rectangle's call
 
@@ -172,7 +173,7 @@ module _ (a : Call) (n : ℕ) (fit : Room a n) (whole : List ℕ)
       → (j : ℕ) → Of (a .stride) q j → getD (take (first (a .stride) q) out ++ got) j 0 ≡ getD whole j 0
   step-put q out room got room' e i o j p =
       rw (p .is)
-      (now-at a q out room got room' (subst (Room a) (sym e) fit) i o (p .s) (p .d) (p .sh) (p .dw)
+      (now-at a q out room got room' (refit fit e) i o (p .s) (p .d) (p .sh) (p .dw)
       ∙ sym (right (q .r0 + p .s) (q .c0 + p .d) (omega (arith, i .rows, p .sh)) (omega (arith, i .cols, p .dw))))
 
   -- so that what a place has already of the uncut call's stays
@@ -182,14 +183,14 @@ module _ (a : Call) (n : ℕ) (fit : Room a n) (whole : List ℕ)
   step-kept q out room got room' e i o j same =
       ⊎-elim
       (λ p. step-put q out room got room' e i o j p)
-      (λ away. now-else a q out room got room' (subst (Room a) (sym e) fit) i o j away ∙ same)
+      (λ away. now-else a q out room got room' (refit fit e) i o j away ∙ same)
       (of (a .stride) q j)
 
   kept : {qs : List Part} {out last : List ℕ} → length out ≡ n → Each (Within a) qs → Made (a .stride) qs out last
       → (j : ℕ) → getD out j 0 ≡ getD whole j 0 → getD last j 0 ≡ getD whole j 0
   kept e i done j same = same
   kept e i (next {q = q} {out = out} room got room' o m) j same =
-      let size = now-length a q out room got room' (subst (Room a) (sym e) fit) (i .0) o ∙ e in
+      let size = now-length a q out room got room' (refit fit e) (i .0) o ∙ e in
       kept size (i .1) m j (step-kept q out room got room' e (i .0) o j same)
 
   -- and each sample of a rectangle is reached
@@ -198,7 +199,7 @@ module _ (a : Call) (n : ℕ) (fit : Room a n) (whole : List ℕ)
   unfolding count
   reached e i done r c p = absurd (not-suc-le-zero p)
   reached e i (next {q = q} {qs = qs} {out = out} room got room' o m) r c p =
-      let size = now-length a q out room got room' (subst (Room a) (sym e) fit) (i .0) o ∙ e in
+      let size = now-length a q out room got room' (refit fit e) (i .0) o ∙ e in
       ⊎-elim
       (λ h. kept size (i .1) m (r * a .stride + c) (step-put q out room got room' e (i .0) o (r * a .stride + c) (of-has (a .stride) q r c h)))
       (λ later. reached size (i .1) m r c later)
@@ -208,7 +209,7 @@ made-length : (a : Call) (n : ℕ) → Room a n → {qs : List Part} {out last :
     → Made (a .stride) qs out last → length last ≡ n
 made-length a n fit e i done = e
 made-length a n fit e i (next {q = q} {out = out} room got room' o m) =
-    made-length a n fit (now-length a q out room got room' (subst (Room a) (sym e) fit) (i .0) o ∙ e) (i .1) m
+    made-length a n fit (now-length a q out room got room' (refit fit e) (i .0) o ∙ e) (i .1) m
 
 -- ---- the theorem
 
@@ -258,7 +259,7 @@ no-other a out room whole room' o qs within last made j away =
     let else = whole-else a out room whole room' o j away in
     kept a (length out) (fits a out room whole room' o) whole (whole-at a out room whole room' o) refl within made j else ∙ sym else
 
--- nor does the output's length
+-- nor does the output's length change
 pub no-longer : (a : Call) (out room whole room' : List ℕ) → Outcome a out room 0 whole room'
     → (qs : List Part) → Each (Within a) qs → (last : List ℕ) → Made (a .stride) qs out last → length last ≡ length out
 no-longer a out room whole room' o qs within last made = made-length a (length out) (fits a out room whole room' o) refl within made

@@ -1,5 +1,5 @@
--- The cutting theorem speaks of calls that exist: an averaged block of two by two samples, its right column predicted before its left one, and
--- each of the three calls lent its references in other bands. All of it is computed. Assumes nothing.
+-- The cutting theorem speaks of calls that exist: an averaged block of two by two samples, its right column predicted before its left one, the
+-- three calls lent reference 0 in three partings and reference 1 in two. All of it is computed. Assumes nothing.
 use mathlib.Core.Path.{_≡_, refl, sym, _∙_}
 use mathlib.Core.Bool.{true}
 use mathlib.Core.List.{List, [], _∷_}
@@ -8,8 +8,7 @@ use native.Mathlib.Omega.{arith}
 use lib.IntN.{ℤ, pos, negsuc}
 use lib.ListN.{length, replicate, length-replicate}
 use Rattle.base.specs.Answer.{unless}
-use Rattle.base.specs.Number as Number
-use Rattle.base.specs.Number.{within}
+use Rattle.base.specs.Number.{between, within}
 use Rattle.base.specs.Paint.{fill, paint}
 use Rattle.base.specs.Position.{hold, along, place}
 use Rattle.base.specs.Vector.{sixteenth}
@@ -54,8 +53,8 @@ left =
 pub before : List ℕ
 before = 7 ∷ 8 ∷ 9 ∷ 1 ∷ 2 ∷ 3 ∷ 4 ∷ []
 
-between : List ℕ
-between = 7 ∷ 60 ∷ 9 ∷ 1 ∷ 70 ∷ 3 ∷ 4 ∷ []
+halfway : List ℕ
+halfway = 7 ∷ 60 ∷ 9 ∷ 1 ∷ 70 ∷ 3 ∷ 4 ∷ []
 
 pub last : List ℕ
 last = 58 ∷ 60 ∷ 9 ∷ 68 ∷ 70 ∷ 3 ∷ 4 ∷ []
@@ -67,7 +66,7 @@ record Numbers : Type 0 where
   second : numberOf (left .call) 7 8576 ≡ 0
 
 numbers : Numbers
-unfolding block right left numberOf kind starts sized fits outFits holds Number.between within unless
+unfolding block right left numberOf kind starts sized fits outFits holds between within unless
 numbers = record { whole = refl; first = refl; second = refl }
 
 abbrev painted : Call → List ℕ → List ℕ
@@ -77,10 +76,10 @@ painted a out = paint out (a .stride) (a .shape .w) (a .shape .h) (value a)
 record Samples : Type 0 where
   whole : painted block before ≡ last
   first : painted (right .call) (8 ∷ 9 ∷ 1 ∷ 2 ∷ 3 ∷ 4 ∷ []) ≡ 60 ∷ 9 ∷ 1 ∷ 70 ∷ 3 ∷ 4 ∷ []
-  second : painted (left .call) between ≡ last
+  second : painted (left .call) halfway ≡ last
 
 samples : Samples
-unfolding block right left before between last paint fill value fromRef sample across filtered blend place hold along plane tap filters bilinear
+unfolding block right left before halfway last paint fill value fromRef sample across filtered blend place hold along plane tap filters bilinear
 samples = record { whole = refl; first = refl; second = refl }
 
 room : List ℕ
@@ -105,10 +104,10 @@ unfolding before
 uncut = outcome block before last (numbers .whole) (samples .whole)
 
 pub made : Made 3 (right ∷ left ∷ []) before last
-unfolding right left before between
+unfolding right left before halfway
 made =
     next {q = right} {out = before} room _ room (outcome (right .call) _ _ (numbers .first) (samples .first))
-    (next {q = left} {out = between} room last room (outcome (left .call) between last (numbers .second) (samples .second)) done)
+    (next {q = left} {out = halfway} room last room (outcome (left .call) halfway last (numbers .second) (samples .second)) done)
 
 -- what holds of 0 holds below 1; what holds of 0 and 1 holds below 2
 lone : (P : ℕ → Type 0) → P 0 → (k : ℕ) → k < 1 → P k
