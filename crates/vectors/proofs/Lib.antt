@@ -5,5 +5,4 @@ pub mod Near
 pub mod Parts
 pub mod Scaled
 pub mod SearchCalls
-pub mod Starred
 pub mod Table
