@@ -51,6 +51,28 @@ struct block {
     size_t stride;
 };
 
+struct predict {
+    int32_t vectors[2][4][2];
+    size_t plane;
+    int32_t x, y;
+    size_t w, h, block, filter;
+    uint32_t depth;
+    bool average;
+    uint8_t size;
+    bool sub_x, sub_y;
+    int32_t grid[4], frame_width, frame_height, ref_width, ref_height;
+    size_t stride;
+    const uint16_t *samples[2];
+    size_t dest_width, dest_height;
+    const uint16_t *dest;
+};
+
+struct ready;
+
+struct ready *rust_predict_ready(const struct predict *);
+void rust_predict_inter(const struct predict *, struct ready *);
+const uint16_t *rust_predict_dest(const struct ready *);
+void rust_predict_done(struct ready *);
 void rust_select_mv(const struct select *, int32_t out[2]);
 void rust_clamp_mv(const struct clamp *, int32_t out[2]);
 void rust_scale_mv(const struct scale *, int32_t out[4]);
@@ -218,16 +240,50 @@ static void fill_planes(uint32_t depth)
 }
 #endif
 
+#ifdef HAVE_knobspindle_predict_inter
+static uint16_t dest[WIDTH * HEIGHT];
+static struct predict predict_args;
+static struct ready *ready;
+
+static NEVER_INLINE void ours_predict(void)
+{
+    const struct predict *a = &predict_args;
+    knobspindle_inter_pred_args args = {a->plane, a->x, a->y, a->w, a->h, a->block, a->filter, a->depth, a->average};
+    knobspindle_block_grid grid = {a->grid[0], a->grid[1], a->grid[2], a->grid[3], a->size};
+    knobspindle_frame_geom frame = {a->frame_width, a->frame_height, a->sub_x, a->sub_y};
+    knobspindle_ref_geom geom = {a->ref_width, a->ref_height, a->stride, a->ref_height};
+    knobspindle_dest_geom size = {a->dest_width, a->dest_height};
+    knobspindle_block_mvs of;
+    memcpy(&of, a->vectors, sizeof of);
+    size_t n = a->ref_height * a->stride;
+    answer = knobspindle_predict_inter(args, grid, frame, of, geom, a->samples[0], n, NULL, 0, geom, a->samples[1], n, NULL, 0, room, 8576, dest,
+                                       WIDTH * HEIGHT, size);
+}
+
+static NEVER_INLINE void rust_predict(void)
+{
+    rust_predict_inter(&predict_args, ready);
+}
+#endif
+
 static void fill_outputs(void)
 {
     answer = 99;
     memset(given, 0, sizeof given);
     for (int i = 0; i < OUT; i++)
         out[OURS][i] = out[RUST][i] = (i * 37 + 11) % 1021;
+#ifdef HAVE_knobspindle_predict_inter
+    for (int i = 0; i < WIDTH * HEIGHT; i++)
+        dest[i] = (i * 37 + 11) % 251;
+#endif
 }
 
 static bool same(void)
 {
+#ifdef HAVE_knobspindle_predict_inter
+    if (ready && memcmp(dest, rust_predict_dest(ready), sizeof dest))
+        return false;
+#endif
     return answer == 0 && !memcmp(given[OURS], given[RUST], sizeof given[0]) && !memcmp(out[OURS], out[RUST], sizeof out[0]);
 }
 
@@ -376,6 +432,45 @@ static void blocks(void)
 }
 #endif
 
+#ifdef HAVE_knobspindle_predict_inter
+/* A block of the frame whose size the plane has, its vector in eighths: 3 across and 5 down are phases 6 and 10. */
+static void predict_case(const char *name, size_t w, uint8_t size, int at, int row, int col, bool average)
+{
+    fill_outputs();
+    predict_args = (struct predict){.x = at, .y = at, .w = w, .h = w, .depth = 8, .average = average, .size = size,
+                                    .sub_x = true, .sub_y = true, .grid = {at / 8, at / 8, (HEIGHT + 7) / 8, (WIDTH + 7) / 8},
+                                    .frame_width = WIDTH, .frame_height = HEIGHT, .ref_width = WIDTH, .ref_height = HEIGHT, .stride = STRIDE,
+                                    .samples = {planes[0], planes[1]}, .dest_width = WIDTH, .dest_height = HEIGHT, .dest = dest};
+    for (int i = 0; i < 8; i++) {
+        predict_args.vectors[i / 4][i % 4][0] = row;
+        predict_args.vectors[i / 4][i % 4][1] = col;
+    }
+    ready = rust_predict_ready(&predict_args);
+    one_case(average ? "predict beside" : "predict", name, ours_predict, rust_predict);
+    rust_predict_done(ready);
+    ready = NULL;
+}
+
+static void predictions(void)
+{
+    static const uint8_t of[] = {0, 3, 6, 12};
+    char name[80];
+    fill_planes(8);
+    for (int edge = 0; edge < 2; edge++)
+        for (int i = 0; i < 4; i++)
+            for (int k = 0; k < 4; k++) {
+                int whole = edge ? -16 : 16;
+                snprintf(name, sizeof name, "predict_inter, %dx%d %s, %s", sizes[i], sizes[i], kinds[k], edge ? "edge" : "interior");
+                predict_case(name, sizes[i], of[i], edge ? 0 : 64, whole + (k & 2 ? 5 : 0), whole + (k & 1 ? 3 : 0), false);
+            }
+    for (int i = 2; i < 4; i++)
+        for (int k = 0; k < 4; k += 3) {
+            snprintf(name, sizeof name, "predict_inter, %dx%d %s, interior, averaged", sizes[i], sizes[i], kinds[k]);
+            predict_case(name, sizes[i], of[i], 64, 16 + (k & 2 ? 5 : 0), 16 + (k & 1 ? 3 : 0), true);
+        }
+}
+#endif
+
 int main(int argc, char **argv)
 {
     list = argc == 2 && !strcmp(argv[1], "list");
@@ -395,6 +490,9 @@ int main(int argc, char **argv)
 #endif
 #ifdef HAVE_knobspindle_block_inter_predict
     blocks();
+#endif
+#ifdef HAVE_knobspindle_predict_inter
+    predictions();
 #endif
     if (!list && wanted < 0)
         printf("%d cases, %d differences\n", number, differ);

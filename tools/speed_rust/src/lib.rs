@@ -47,7 +47,10 @@ mod residual;
 
 use block_inter_pred::{SampleRows, block_inter_predict_into};
 use decoded_frame::Vp9DecodedFrame;
+use frame_buf::FrameBuf;
 use inter_mv::{BlockGrid, ScaleGeom};
+use inter_pred::{InterPredArgs, PredScratch, RefPlane, RefPlanes};
+use intra::Plane;
 use mv_ref::{MvCandidateSource, MvRefGeometry};
 use std::slice::from_raw_parts;
 
@@ -131,6 +134,33 @@ pub struct Block {
     refs: [Reference; 2],
     out: *mut u16,
     stride: usize,
+}
+
+#[repr(C)]
+pub struct Predict {
+    vectors: [[[i32; 2]; 4]; 2],
+    plane: usize,
+    x: i32,
+    y: i32,
+    w: usize,
+    h: usize,
+    block: usize,
+    filter: usize,
+    depth: u32,
+    average: bool,
+    size: u8,
+    sub_x: bool,
+    sub_y: bool,
+    grid: [i32; 4],
+    frame_width: i32,
+    frame_height: i32,
+    ref_width: i32,
+    ref_height: i32,
+    stride: usize,
+    samples: [*const u16; 2],
+    dest_width: usize,
+    dest_height: usize,
+    dest: *const u16,
 }
 
 // ---- the calls
@@ -306,4 +336,86 @@ pub unsafe extern "C" fn rust_block_inter_predict(a: &Block, room: &mut [i32; 64
             }
         }
     }
+}
+
+/// What a decoder has before it predicts: the references in its own storage (`FrameBuf`), the destination, the working storage.
+pub struct Ready {
+    frames: [FrameBuf; 2],
+    dest: Plane,
+    scratch: Box<PredScratch>,
+}
+
+/// # Safety
+/// As above; each reference holds ref_height x stride samples of luma, the destination dest_width x dest_height.
+#[unsafe(no_mangle)]
+pub unsafe extern "C" fn rust_predict_ready(a: &Predict) -> *mut Ready {
+    let n = a.ref_height as usize * a.stride;
+    let frames = a.samples.map(|samples| {
+        let luma: Vec<i32> = unsafe { from_raw_parts(samples, n) }.iter().map(|&s| i32::from(s)).collect();
+        let chroma = vec![0; a.ref_height as usize];
+        let planes = [(&luma[..], a.stride), (&chroma[..], 1), (&chroma[..], 1)];
+        FrameBuf::from_flat(planes, a.ref_width as u32, a.ref_height as u32, a.sub_x, a.sub_y, a.depth as u8)
+    });
+    let mut dest = Plane::new(a.dest_width, a.dest_height);
+    dest.samples_mut().copy_from_slice(unsafe { from_raw_parts(a.dest, a.dest_width * a.dest_height) });
+    let scratch = PredScratch::new_boxed();
+    Box::into_raw(Box::new(Ready { frames, dest, scratch }))
+}
+
+/// # Safety
+/// As above; `ready` was made from the same arguments.
+#[unsafe(no_mangle)]
+pub unsafe extern "C" fn rust_predict_inter(a: &Predict, ready: &mut Ready) {
+    let list = [0, 1].map(|i| {
+        (i == 0 || a.average).then_some(RefPlane {
+            samples: &[],
+            stride: a.stride,
+            ref_frame_width: a.ref_width,
+            ref_frame_height: a.ref_height,
+            bands: Some((&ready.frames[i], a.plane)),
+        })
+    });
+    let args = InterPredArgs {
+        plane: a.plane,
+        x: a.x,
+        y: a.y,
+        w: a.w,
+        h: a.h,
+        block_idx: a.block,
+        interp_filter: a.filter,
+        bit_depth: a.depth,
+        is_compound: a.average,
+    };
+    let [mi_row, mi_col, mi_rows, mi_cols] = a.grid;
+    let grid = BlockGrid {
+        mi_row,
+        mi_col,
+        mi_rows,
+        mi_cols,
+        mi_size: a.size,
+    };
+    let geom = ScaleGeom {
+        ref_frame_width: a.ref_width,
+        ref_frame_height: a.ref_height,
+        frame_width: a.frame_width,
+        frame_height: a.frame_height,
+        subsampling_x: a.sub_x,
+        subsampling_y: a.sub_y,
+    };
+    let refs = RefPlanes { list };
+    inter_pred::predict_inter_with(&mut ready.dest, &args, &grid, &geom, &a.vectors, &refs, a.sub_x, a.sub_y, &mut ready.scratch);
+}
+
+/// # Safety
+/// As above.
+#[unsafe(no_mangle)]
+pub unsafe extern "C" fn rust_predict_dest(ready: &Ready) -> *const u16 {
+    ready.dest.samples().as_ptr()
+}
+
+/// # Safety
+/// `ready` is from `rust_predict_ready` and is not used again.
+#[unsafe(no_mangle)]
+pub unsafe extern "C" fn rust_predict_done(ready: *mut Ready) {
+    drop(unsafe { Box::from_raw(ready) });
 }
