@@ -13,11 +13,12 @@ x86_loader=$x86_tools/lib/ld-linux-x86-64.so.2
 x86_archive=$x86_root/target/staticlib/libhost.a
 
 x86_library() { # proves and builds the library where it is missing or a source is newer, with a line a crate
-    [ ! -f "$x86_archive" ] || [ -n "$(find "$x86_root/crates" "$x86_root/crates.txt" -type f -newer "$x86_archive")" ] || return 0
+    [ ! -f "$x86_archive" ] || [ -n "$(find "$x86_root/crates" "$x86_root/crates.txt" -name '*.[rat]*t' -newer "$x86_archive")" ] || return 0
     echo "proving and building the library (some minutes the first time)" >&2
     mkdir -p "$x86_root/target"
     x86_log=$x86_root/target/staticlib.log
-    { cd "$x86_root" && rt staticlib host 2>&1 && touch "$x86_archive" || echo "rt staticlib host: FAILED"; } | tee "$x86_log" | grep --line-buffered '^rt: ' >&2 || :
+    { cd "$x86_root" && rt staticlib host 2>&1 && touch "$x86_archive" || echo "rt staticlib host: FAILED"; } | tee "$x86_log" |
+        grep --line-buffered '^rt: ' >&2 || :
     [ "$(tail -n 1 "$x86_log")" != "rt staticlib host: FAILED" ] || { cat "$x86_log" >&2; return 1; }
 }
 
