@@ -117,7 +117,7 @@ from-piece b d a p r0 c0 r c f e m =
     (λ t u t8 u8. m .plane .samples _ _ (omega (arith, m .high, place-le Y Q t)) (omega (arith, m .wide, place-le X P u)))
     ∙ rw (x, y, f, e, m .plane .width, m .plane .height)
 
-blend-same : (t : Bool) (x y v w : ℕ) → x ≡ v → (t ≡ true → y ≡ w) → blend t x y ≡ blend t v w
+pub blend-same : (t : Bool) (x y v w : ℕ) → x ≡ v → (t ≡ true → y ≡ w) → blend t x y ≡ blend t v w
 unfolding blend
 blend-same true x y v w e f = rw (e, f refl)
 blend-same false x y v w e f = e

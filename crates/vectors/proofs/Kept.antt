@@ -34,7 +34,7 @@ use Rattle.vectors.specs.MvRef.{subMv, legalFour, before, subList, appen
 use Rattle.vectors.proofs.Table.{SearchOk, search-ok, best-ok, append-ok}
 
 -- how far a number lies below 0
-abbrev below : ℤ → ℕ
+abbrev pub below : ℤ → ℕ
 below (pos n) = 0
 below (negsuc n) = suc n
 
@@ -56,7 +56,7 @@ by-tests low high v m true t f g h = f refl
 by-tests low high v m false true f g h = g refl
 by-tests low high v m false false f g h = h
 
-clip-kept : (a : ℕ) (low high v : ℤ) (m : ℕ) → low ≡ negℤ (pos a) → below high ≤ m → natAbs v ≤ m → natAbs (clip3 low high v) ≤ m
+pub clip-kept : (a : ℕ) (low high v : ℤ) (m : ℕ) → low ≡ negℤ (pos a) → below high ≤ m → natAbs v ≤ m → natAbs (clip3 low high v) ≤ m
 unfolding clip3
 clip-kept a low high v m e hn hv =
     rw e
@@ -85,7 +85,7 @@ diff-below : (c d : ℕ) → below (pos c -ℤ pos d) ≤ d
 diff-below c zero = omega arith
 diff-below c (suc n) = sub-below c n (ltb c (suc n)) refl
 
-neg-below : (m : ℕ) → below (negℤ (pos m)) ≡ m
+pub neg-below : (m : ℕ) → below (negℤ (pos m)) ≡ m
 neg-below zero = refl
 neg-below (suc m) = refl
 
@@ -93,19 +93,19 @@ scaled-below : (z : ℤ) (m : ℕ) → below z ≤ m → below (pos 64 *ℤ z) �
 scaled-below (pos k) m h = omega arith
 scaled-below (negsuc k) m h = omega (arith, neg-below (64 * suc k))
 
-add-below : (z : ℤ) (b m : ℕ) → below z ≤ m → below (z +ℤ pos b) ≤ m
+pub add-below : (z : ℤ) (b m : ℕ) → below z ≤ m → below (z +ℤ pos b) ≤ m
 add-below (pos k) b m h = omega arith
 add-below (negsuc k) b m h = le-trans (sub-below b k (ltb b (suc k)) refl) h
 
 -- t - f, of a cell f of an axis of t cells
-inside-is : (t f : ℕ) → f ≤ t → pos t -ℤ pos f ≡ pos (t - f)
+pub inside-is : (t f : ℕ) → f ≤ t → pos t -ℤ pos f ≡ pos (t - f)
 inside-is t zero h = let e : t + 0 ≡ t - 0 = omega arith in ap pos e
 inside-is t (suc f) h = rw (le-ltb t (suc f) h)
 
 swap : (a b c : ℤ) → (a +ℤ b) +ℤ c ≡ (a +ℤ c) +ℤ b
 swap a b c = +ℤ-assoc a b c ∙ ap (λ (z : ℤ). a +ℤ z) (+ℤ-comm b c) ∙ sym (+ℤ-assoc a c b)
 
-cells-below : (t n f : ℕ) → f ≤ t → below (pos t -ℤ pos n -ℤ pos f) ≤ n
+pub cells-below : (t n f : ℕ) → f ≤ t → below (pos t -ℤ pos n -ℤ pos f) ≤ n
 cells-below t n f h = rw (swap (pos t) (negℤ (pos n)) (negℤ (pos f)), inside-is t f h) (diff-below (t - f) n)
 
 -- a legal component stays legal
@@ -119,7 +119,7 @@ part-kept border t n f v inside few hv =
 
 -- ---- vectors
 
-size-kept : (sizes : List ℤ) → all (between (pos 0) (pos 8)) (pos 0) sizes ≡ true → (size : ℕ)
+pub size-kept : (sizes : List ℤ) → all (between (pos 0) (pos 8)) (pos 0) sizes ≡ true → (size : ℕ)
     → (pos (toN (getD sizes size (pos 0))) ≡ getD sizes size (pos 0)) × (toN (getD sizes size (pos 0)) ≤ 8)
 size-kept sizes test size =
     let z = getD sizes size (pos 0) in

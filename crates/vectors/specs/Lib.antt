@@ -4,5 +4,4 @@ pub mod Select
 pub mod Clamp
 pub mod Scale
 pub mod MvRef
-pub mod Starred
 pub mod Rows

@@ -1,0 +1,96 @@
+-- `predict` meets its contract: nothing where the part is empty, else what the block prediction below paints. Assumes nothing.
+use mathlib.Core.Path.{_≡_, refl, sym, ap, _∙_}
+use mathlib.Core.List.{List, _++_}
+use Prim.Native.Nat.{ℕ, _-_, _≤_, _<_}
+use native.Mathlib.Omega.{arith}
+use borrow.Rule.Slice.PartAt.{part-to-end}
+use lib.ListN.{length, take, drop, length-drop}
+use Rattle.base.specs.Paint.{onPart}
+use Rattle.samples.specs.Plane.{lent}
+use Rattle.samples.specs.Call as Call
+use Rattle.samples.specs.Call.{Call, call, ref}
+use Rattle.samples.proofs.Accepted.{after-taken}
+use Rattle.prediction.specs.Chain.{paintFrom}
+use Rattle.prediction.proofs.Accepted.{paint-none, none-or, some-both, put-rest}
+use borrow.Author.Needs.{needs}
+use Rattle.prediction.proofs.inter_pred.predict.Statement.{statement}
+use Rattle.prediction.proofs.inter_pred.predict.Tie as tie
+
+abbrev asked : tie.Start → Call
+asked s =
+    let a = s .args in
+    call (a .shape) (ref (lent (a .plane) (a .upper .now) (a .lower .now)) (a .from))
+    (ref (lent (a .plane2) (a .upper2 .now) (a .lower2 .now)) (a .from2)) (a .stride)
+
+abbrev entry : tie.After-struct-known2 → tie.Start
+entry c =
+    let k = c .before .before .before .before in
+    k .before .before .before .before
+
+-- past the test the part has samples
+some : (c : tie.Else1) → let s = entry (c .before) in (0 < s .args .shape .w) × (0 < s .args .shape .h)
+some c = let s = entry (c .before) in some-both (s .args .shape .w) (s .args .shape .h) (c .if1 .left)
+
+returns : tie.Need-returns
+returns c =
+    let s = entry (c .before) in
+    (refl, sym (paint-none (asked s) (s .args .i) (s .args .out .now) (none-or (s .args .shape .w) (s .args .shape .h) (c .if1 .taken))))
+
+start : (c : tie.Else1) → let s = entry (c .before) in s .args .i ≤ length (s .args .out .now)
+start c =
+    let s = entry (c .before) in
+    s .pre .place (some c .0) (some c .1)
+
+mul-block-inter-predict : tie.Need-mul-block-inter-predict
+mul-block-inter-predict c = let e = c .before in let s = entry (e .before) in omega (arith, start e, s .good)
+
+sub-block-inter-predict : tie.Need-sub-block-inter-predict
+sub-block-inter-predict c = start (c .before)
+
+part-block-inter-predict-start : tie.Need-part-block-inter-predict-start
+part-block-inter-predict-start c = start (c .before)
+
+part-block-inter-predict-end : tie.Need-part-block-inter-predict-end
+part-block-inter-predict-end c = search needs
+
+block-inter-predict-requires : tie.Need-block-inter-predict-requires
+block-inter-predict-requires c κs = search needs
+
+same-length : tie.Need-same-length
+same-length c = search needs
+
+same-length-2 : tie.Need-same-length-2
+same-length-2 c = search needs
+
+returns-2 : tie.Need-returns-2
+unfolding paintFrom onPart
+returns-2 c =
+    let b1 = c .before .before .before in
+    let b = b1 .before in
+    let e1 = b .before .before in
+    let e = e1 .before in
+    let s = entry (e .before) in
+    let out = s .args .out .now in
+    let i = s .args .i in
+    let has = some e in
+    let zero = s .pre .taken (has .0) (has .1) in
+    let from : take (length out - i) (drop i out) ≡ drop i out = part-to-end out i in
+    let o = rw from at (b .block-inter-predict .ensures) in
+    let less : length (drop i out) ≡ length out - i = length-drop i out in
+    let accepted : Call.numberOf (asked s) (length (drop i out)) (length (s .args .room .now)) ≡ 0 = rw less zero in
+    let put = put-rest i out _ (start e) in
+    (o .number ∙ accepted, put ∙ ap (λ (l : List ℕ). take i out ++ l) (o .output ∙ after-taken (asked s) (drop i out) _ accepted))
+
+pub predict-spec : {M : Type 1} → statement M
+predict-spec =
+    tie.close
+    (tie.spec
+    returns
+    mul-block-inter-predict
+    sub-block-inter-predict
+    part-block-inter-predict-start
+    part-block-inter-predict-end
+    block-inter-predict-requires
+    same-length
+    same-length-2
+    returns-2)

@@ -1,0 +1,4 @@
+pub mod Predict
+pub mod Chain
+pub mod Cut
+pub mod Starred
