@@ -206,6 +206,36 @@ static void predict_inter(void)
     check("whole, sub-block 4: answer", whole(args, half, 3, size), KNOBSPINDLE_BLOCK);
 }
 
+/* a block of 13 by 9 samples cut into three rectangles, and its plane of 16 by 16 parted at every row: the samples of the uncut block */
+static void cut(void)
+{
+    static const size_t parts[3][4] = {{5, 4, 8, 5}, {0, 0, 5, 9}, {5, 0, 8, 4}}; /* x, y, w, h */
+    static uint16_t plane[256], uncut[13 * 9], pieces[13 * 9];
+    for (size_t i = 0; i < 256; i++)
+        plane[i] = (uint16_t)((i * 37 + 11) % 251);
+    knobspindle_plane_geom geom = {.width = 16, .height = 16, .stride = 16, .upper_rows = 16}, none = {0, 0, 0, 0};
+    knobspindle_stepping from = {.start_x = -37, .start_y = 205, .step_x = 20, .step_y = 13}, nowhere = {0, 0, 0, 0};
+    knobspindle_block_shape shape = {.w = 13, .h = 9, .filter = 2, .depth = 8, .average = false};
+    uint32_t answer = knobspindle_block_inter_predict(shape, geom, from, plane, 256, NULL, 0, none, nowhere, NULL, 0, NULL, 0, room,
+                                                      KNOBSPINDLE_ROOM, uncut, 13 * 9, 13);
+    check("uncut: answer", answer, KNOBSPINDLE_ACCEPTED);
+    for (size_t above = 0; above <= 16; above++) {
+        size_t differ = 0;
+        geom.upper_rows = above;
+        for (size_t k = 0; k < 3; k++) {
+            size_t x = parts[k][0], y = parts[k][1], first = y * 13 + x;
+            shape.w = parts[k][2], shape.h = parts[k][3];
+            knobspindle_stepping there = {from.start_x + 20 * (int32_t)x, from.start_y + 13 * (int32_t)y, 20, 13};
+            answer |= knobspindle_block_inter_predict(shape, geom, there, plane, above * 16, plane + above * 16, 256 - above * 16, none, nowhere,
+                                                      NULL, 0, NULL, 0, room, KNOBSPINDLE_ROOM, pieces + first, 13 * 9 - first, 13);
+        }
+        for (size_t i = 0; i < 13 * 9; i++)
+            differ += pieces[i] != uncut[i], pieces[i] = 0;
+        check("cut: samples that differ", (long long)differ, 0);
+    }
+    check("cut: answers", answer, KNOBSPINDLE_ACCEPTED);
+}
+
 static void append_and_best(void)
 {
     /* one cell, the block's own: no place is inside, so the search gives zeros */
@@ -244,6 +274,7 @@ int main(void)
     row_read();
     block_inter_predict();
     predict_inter();
+    cut();
     printf("host: %d checks, %d failed\n", checks, failed);
     return failed != 0;
 }

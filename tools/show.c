@@ -39,12 +39,12 @@ typedef struct {
     bool beyond;
 } source;
 
-/* along one axis: first sample and length, and whether a tap that counts lies outside 0..last */
-static bool reaches(int32_t start, int32_t step, int32_t count, int32_t last, int32_t *first, int32_t *length) {
+/* along one axis: first sample and length, and whether a tap that counts lies outside 0..last; on whole samples the middle tap alone counts */
+static bool reaches(int32_t start, int32_t step, int32_t count, int32_t last, size_t filter, int32_t *first, int32_t *length) {
     int32_t end = start + step * (count - 1);
-    bool between = start % 16 != 0 || step % 16 != 0;
+    bool filtered = start % 16 != 0 || step % 16 != 0, bilinear = filter == 3;
     *first = start >> 4, *length = (end >> 4) - (start >> 4) + 1;
-    return *first - (between ? 3 : 0) < 0 || (end >> 4) + (between ? 4 : 0) > last;
+    return *first - (filtered && !bilinear ? 3 : 0) < 0 || (end >> 4) + (!filtered ? 0 : bilinear ? 1 : 4) > last;
 }
 
 /* where a block of luma is read */
@@ -57,8 +57,8 @@ static source source_of(const prediction *p) {
     knobspindle_scale_geom geom = {f->width, f->height, p->geom.width, p->geom.height, p->geom.subsampling_x, p->geom.subsampling_y};
     knobspindle_scaled_mv at = knobspindle_scale_mv(geom, 0, p->args.x, p->args.y, held.mv);
     source s;
-    bool across = reaches(at.start_x, at.step_x, p->visible_w, f->width - 1, &s.x, &s.w);
-    bool down = reaches(at.start_y, at.step_y, p->visible_h, f->height - 1, &s.y, &s.h);
+    bool across = reaches(at.start_x, at.step_x, p->visible_w, f->width - 1, p->args.filter, &s.x, &s.w);
+    bool down = reaches(at.start_y, at.step_y, p->visible_h, f->height - 1, p->args.filter, &s.y, &s.h);
     s.beyond = p->visible_w > 0 && p->visible_h > 0 && (across || down);
     return s;
 }
