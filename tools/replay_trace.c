@@ -179,6 +179,7 @@ int main(void) {
     for (; peek() >= 0; next_line()) {
         int letter = peek();
         progress(++line);
+        if (letter == '\n') continue;
         used++;
         if (letter == 'F') frame_line();
         int kind = letter == 'M' ? SEARCH : letter == 'A' ? LIST : letter == 'P' ? PREDICTION : KINDS;

@@ -23,6 +23,7 @@ static bool read_trace(void) {
     uint32_t line = 1;
     for (; peek() >= 0 && !broken; next_line(), line++) {
         int kind = peek();
+        if (kind == '\n') continue;
         used++;
         if (kind == 'F') frame_line();
         if (kind != 'P') continue;
