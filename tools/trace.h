@@ -203,13 +203,14 @@ static inline bool same_block(const prediction *p, const prediction *q) {
            p->args.h == q->args.h && p->args.block == q->args.block && p->grid.mi_row == q->grid.mi_row && p->grid.mi_col == q->grid.mi_col;
 }
 
-/* The list 0 line of a list 1 line: the last one of the same block. A block below 8x8 has up to four list 0 lines before its first list 1 line. */
+/* The list 0 line of a list 1 line: the last one of the same block. A block below 8x8 may have all its list 0 lines before its first list 1 line,
+ * up to four a plane. */
 static inline const prediction *first_list(const prediction *p) {
-    static prediction last[4];
+    static prediction last[12];
     static uint32_t next;
-    if (p->list == 0) return last[next++ % 4] = *p, p;
-    for (uint32_t back = 1; back <= 4 && back <= next; back++)
-        if (same_block(&last[(next - back) % 4], p)) return &last[(next - back) % 4];
+    if (p->list == 0) return last[next++ % 12] = *p, p;
+    for (uint32_t back = 1; back <= 12 && back <= next; back++)
+        if (same_block(&last[(next - back) % 12], p)) return &last[(next - back) % 12];
     broken = true;
     return p;
 }
