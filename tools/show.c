@@ -205,7 +205,7 @@ static bool draw_row(const summary *s, int32_t top) {
     planes reference = decoded(s->reference), made, finished = decoded(s->frame);
     if (!put_together(s->frame, &made)) return false;
     char words[3][LETTERS + 1];
-    snprintf(words[0], sizeof words[0], "REFERENCE: FRAME %d", s->reference);
+    snprintf(words[0], sizeof words[0], "MAIN REFERENCE: FRAME %d", s->reference);
     snprintf(words[1], sizeof words[1], "FRAME %d AS WE PREDICT IT", s->frame);
     snprintf(words[2], sizeof words[2], "FRAME %d AS DECODED", s->frame);
     text(&page, gap, top + 10, type, ink, words[0]);
