@@ -127,7 +127,35 @@ typedef struct {
     knobspindle_mv first, second;
 } knobspindle_mv_pair;
 
-/* Numbers of working room that knobspindle_block_inter_predict asks for. */
+/* A block for the whole prediction: the plane (0 luma, 1 and 2 chroma), the block's first sample there, its size in samples (1..64 each), the
+ * sub-block 0..3 (0 where the block is not below 8x8), then as in knobspindle_block_shape. */
+typedef struct {
+    size_t plane;
+    int32_t x, y;
+    size_t w, h, block, filter;
+    uint32_t depth;
+    bool average;
+} knobspindle_inter_pred_args;
+
+/* The frame's size in luma samples, and whether chroma is halved across and down, of the frame and of its references. */
+typedef struct {
+    int32_t width, height;
+    bool subsampling_x, subsampling_y;
+} knobspindle_frame_geom;
+
+/* A reference of the whole prediction: its frame's size in luma samples. The plane that is lent has that size, or for chroma, where halved, half
+ * of it rounded up; stride and bands as in knobspindle_plane_geom. */
+typedef struct {
+    int32_t frame_width, frame_height;
+    size_t stride, upper_rows;
+} knobspindle_ref_geom;
+
+/* The destination plane's size in samples (1..65536 each); its stride is its width. */
+typedef struct {
+    size_t width, height;
+} knobspindle_dest_geom;
+
+/* Numbers of working room that knobspindle_block_inter_predict and knobspindle_predict_inter ask for. */
 #define KNOBSPINDLE_ROOM 8576
 
 /* The vector that a plane (0 luma, 1 and 2 chroma) takes from list 0, or from list 1 where second is true. size is the block size 0..12,
@@ -177,6 +205,16 @@ uint32_t knobspindle_block_inter_predict(knobspindle_block_shape shape, knobspin
                                          knobspindle_plane_geom geom2, knobspindle_stepping from2, const uint16_t *upper2,
                                          size_t upper2_len, const uint16_t *lower2, size_t lower2_len, uint16_t *room, size_t room_len,
                                          uint16_t *out, size_t out_len, size_t stride);
+
+/* The whole prediction of a block: its vectors selected, clamped and scaled, its samples predicted from list 0 or, where args.average is true,
+ * from both lists and averaged, into the destination plane out. Only the part of the block inside the destination is written; a block wholly
+ * beyond it is accepted and writes nothing. Nothing of list 1 is looked at without averaging; zeros and NULL, 0 do. out and room overlap
+ * neither each other nor a band; what room holds after an accepted call is anything. Answers 1, 2, 4, 5, 6, 7 and 9. */
+uint32_t knobspindle_predict_inter(knobspindle_inter_pred_args args, knobspindle_block_grid grid, knobspindle_frame_geom frame,
+                                   knobspindle_block_mvs mvs, knobspindle_ref_geom geom, const uint16_t *upper, size_t upper_len,
+                                   const uint16_t *lower, size_t lower_len, knobspindle_ref_geom geom2, const uint16_t *upper2,
+                                   size_t upper2_len, const uint16_t *lower2, size_t lower2_len, uint16_t *room, size_t room_len,
+                                   uint16_t *out, size_t out_len, knobspindle_dest_geom dest);
 
 #ifdef __cplusplus
 }

@@ -156,6 +156,86 @@ static void block_inter_predict(void)
     check("block, depth 9: answer", answer, KNOBSPINDLE_FILTER);
 }
 
+/* a frame of one cell, 8 by 8, as the whole prediction wants it; sample (row r, column c) of its reference is 10c + r */
+static uint16_t tens[64], nothing[64], room[KNOBSPINDLE_ROOM], dest[64];
+
+static uint32_t whole(knobspindle_inter_pred_args args, knobspindle_block_mvs mvs, size_t lower_len, knobspindle_dest_geom size)
+{
+    knobspindle_block_grid grid = {.mi_rows = 1, .mi_cols = 1, .mi_size = 3};
+    knobspindle_frame_geom frame = {.width = 8, .height = 8, .subsampling_x = true, .subsampling_y = true};
+    size_t w = args.plane == 0 ? 8 : 4;
+    knobspindle_ref_geom geom = {.frame_width = 8, .frame_height = 8, .stride = w, .upper_rows = 3}, second = geom;
+    second.upper_rows = w; /* all of it above */
+    for (size_t i = 0; i < 64; i++)
+        tens[i] = (uint16_t)(i % w * 10 + i / w), dest[i] = 999;
+    return knobspindle_predict_inter(args, grid, frame, mvs, geom, tens, 3 * w, tens + 3 * w, lower_len, second, nothing, w * w, NULL, 0, room,
+                                     KNOBSPINDLE_ROOM, dest, size.width * size.height, size);
+}
+
+static void predict_inter(void)
+{
+    knobspindle_inter_pred_args args = {.plane = 0, .x = 5, .y = 2, .w = 3, .h = 4, .block = 0, .filter = 3, .depth = 8, .average = false};
+    knobspindle_block_mvs half = {.list0 = {{0, 4}, {0, 4}, {0, 4}, {0, 4}}, .list1 = {{0, 4}, {0, 4}, {0, 4}, {0, 4}}};
+    knobspindle_dest_geom size = {8, 4};
+    /* half a sample to the right by the bilinear filter, held at the edge; rows 4 and 5 are beyond the destination */
+    check("whole: answer", whole(args, half, 40, size), KNOBSPINDLE_ACCEPTED);
+    static const uint16_t want[3] = {55 + 2, 65 + 2, 70 + 2};
+    for (size_t i = 0; i < 64; i++)
+        check("whole: sample", dest[i], i >= 2 * 8 + 5 && i < 4 * 8 && i % 8 >= 5 ? want[i % 8 - 5] + (i >= 24) : 999);
+    args.average = true;
+    check("whole, averaged: answer", whole(args, half, 40, size), KNOBSPINDLE_ACCEPTED);
+    check("whole, averaged: first", dest[21], (57 + 0 + 1) / 2);
+    args.average = false;
+    /* chroma: four eighths of a luma sample are a quarter of one of its own, (96 x 0 + 32 x 10 + 64) / 128 */
+    args = (knobspindle_inter_pred_args){.plane = 1, .x = 0, .y = 0, .w = 4, .h = 4, .filter = 3, .depth = 8};
+    size = (knobspindle_dest_geom){4, 4};
+    check("whole, chroma: answer", whole(args, half, 4, size), KNOBSPINDLE_ACCEPTED);
+    check("whole, chroma: first", dest[0], 3);
+    check("whole, chroma: last", dest[15], 33);
+    args.x = 4;
+    check("whole, beyond the destination: answer", whole(args, half, 4, size), KNOBSPINDLE_ACCEPTED);
+    check("whole, beyond the destination: first", dest[0], 999);
+    args.x = 0;
+    check("whole, lower band short: answer", whole(args, half, 3, size), KNOBSPINDLE_SHORT);
+    check("whole, lower band short: first", dest[0], 999);
+    half.list1[0].col = 32768; /* of list 1 nothing is judged without averaging */
+    check("whole, list 1 not used: answer", whole(args, half, 4, size), KNOBSPINDLE_ACCEPTED);
+    args.average = true;
+    check("whole, list 1 out of range: answer", whole(args, half, 4, size), KNOBSPINDLE_VECTOR);
+    args.block = 4;
+    check("whole, sub-block 4: answer", whole(args, half, 3, size), KNOBSPINDLE_BLOCK);
+}
+
+/* a block of 13 by 9 samples cut into three rectangles, and its plane of 16 by 16 parted at every row: the samples of the uncut block */
+static void cut(void)
+{
+    static const size_t parts[3][4] = {{5, 4, 8, 5}, {0, 0, 5, 9}, {5, 0, 8, 4}}; /* x, y, w, h */
+    static uint16_t plane[256], uncut[13 * 9], pieces[13 * 9];
+    for (size_t i = 0; i < 256; i++)
+        plane[i] = (uint16_t)((i * 37 + 11) % 251);
+    knobspindle_plane_geom geom = {.width = 16, .height = 16, .stride = 16, .upper_rows = 16}, none = {0, 0, 0, 0};
+    knobspindle_stepping from = {.start_x = -37, .start_y = 205, .step_x = 20, .step_y = 13}, nowhere = {0, 0, 0, 0};
+    knobspindle_block_shape shape = {.w = 13, .h = 9, .filter = 2, .depth = 8, .average = false};
+    uint32_t answer = knobspindle_block_inter_predict(shape, geom, from, plane, 256, NULL, 0, none, nowhere, NULL, 0, NULL, 0, room,
+                                                      KNOBSPINDLE_ROOM, uncut, 13 * 9, 13);
+    check("uncut: answer", answer, KNOBSPINDLE_ACCEPTED);
+    for (size_t above = 0; above <= 16; above++) {
+        size_t differ = 0;
+        geom.upper_rows = above;
+        for (size_t k = 0; k < 3; k++) {
+            size_t x = parts[k][0], y = parts[k][1], first = y * 13 + x;
+            shape.w = parts[k][2], shape.h = parts[k][3];
+            knobspindle_stepping there = {from.start_x + 20 * (int32_t)x, from.start_y + 13 * (int32_t)y, 20, 13};
+            answer |= knobspindle_block_inter_predict(shape, geom, there, plane, above * 16, plane + above * 16, 256 - above * 16, none, nowhere,
+                                                      NULL, 0, NULL, 0, room, KNOBSPINDLE_ROOM, pieces + first, 13 * 9 - first, 13);
+        }
+        for (size_t i = 0; i < 13 * 9; i++)
+            differ += pieces[i] != uncut[i], pieces[i] = 0;
+        check("cut: samples that differ", (long long)differ, 0);
+    }
+    check("cut: answers", answer, KNOBSPINDLE_ACCEPTED);
+}
+
 static void append_and_best(void)
 {
     /* one cell, the block's own: no place is inside, so the search gives zeros */
@@ -193,6 +273,8 @@ int main(void)
     find_mv_refs();
     row_read();
     block_inter_predict();
+    predict_inter();
+    cut();
     printf("host: %d checks, %d failed\n", checks, failed);
     return failed != 0;
 }

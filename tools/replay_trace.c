@@ -1,64 +1,18 @@
-/* Replays the searches (M) and sub-8x8 lists (A) of a decoder's trace, read from standard input, through the compiled library. The lines of
- * the format are told in the traces' own FORMAT.md. A line a kind: 'search: N calls, D differences', ..; exit status 1 if anything differs.
+/* Replays the searches (M), the sub-8x8 lists (A) and the block predictions (P) of a decoder's trace through the compiled library. Standard input
+ * is the trace, file descriptor 3 its frames. A line a kind: 'search N calls, D differences', ..; exit status 1 if anything differs, 2 if a line
+ * can't be read. A prediction is held to the hash of its visible part; how many whole blocks agree is printed beside it (traces/README.md has why).
  *
  * Built with MEASURE (tools/speed-traces does), 'SIDE TIMES' makes each search TIMES times and compares nothing: SIDE is ours, rust, judged
  * (ours with the record that is judged last made illegal, so that the call ends when all records have been judged) or short (ours with a
  * table one short, so that the call ends before a record is judged).
  */
-#include <stdbool.h>
-#include <stdint.h>
-#include <stdio.h>
-#include <string.h>
-#include <unistd.h>
+#include "trace.h"
 
-#include "knobspindle.h"
-
-#define CELLS 65536
+#define CELLS (1 << 20)
 
 static uint8_t modes[CELLS];
 static int8_t frames[2 * CELLS], prev_frames[2 * CELLS];
 static int16_t mvs[4 * CELLS], subs[16 * CELLS], prev_mvs[4 * CELLS];
-
-/* ---- words of the trace */
-
-static uint8_t input[1 << 16];
-static long have, used;
-
-static int peek(void) {
-    if (used == have) {
-        have = read(0, input, sizeof input);
-        used = 0;
-        if (have <= 0) return have = 0, -1;
-    }
-    return input[used];
-}
-
-static bool line_ends(void) {
-    while (peek() == ' ') used++;
-    return peek() == '\n' || peek() < 0;
-}
-
-static void next_line(void) {
-    while (peek() >= 0 && peek() != '\n') used++;
-    if (peek() == '\n') used++;
-}
-
-static bool broken; /* a number was asked for where none stands */
-
-static int32_t number(void) {
-    if (line_ends()) return broken = true, 0;
-    bool minus = peek() == '-';
-    if (minus) used++;
-    int64_t n = 0;
-    if (peek() < '0' || peek() > '9') broken = true;
-    while (peek() >= '0' && peek() <= '9') n = n * 10 + (peek() - '0'), used++;
-    return (int32_t)(minus ? -n : n);
-}
-
-static knobspindle_mv vector(void) {
-    int32_t row = number(), col = number();
-    return (knobspindle_mv){row, col};
-}
 
 /* ---- a line's arguments */
 
@@ -170,8 +124,6 @@ static bool list_agrees(void) {
 }
 
 #ifdef MEASURE
-#include <stdlib.h>
-
 int main(int words, char **word) {
     uint32_t searches = 0;
     if (words != 3) return 2;
@@ -186,26 +138,66 @@ int main(int words, char **word) {
     return 0;
 }
 #else
+static uint64_t hashed(const uint16_t *plane, size_t stride, size_t w, size_t h) {
+    uint64_t k = 1469598103934665603u;
+    for (size_t r = 0; r < h; r++)
+        for (size_t c = 0; c < w; c++) k = (k ^ plane[r * stride + c]) * 1099511628211u;
+    return k;
+}
+
+/* the hash of w x h samples of a block that was predicted into a destination; false if the call is refused */
+static bool predicted(const prediction *p, const prediction *second, uint32_t part, knobspindle_dest_geom dest, size_t w, size_t h, uint64_t hash) {
+    static uint16_t *out;
+    static size_t space;
+    size_t n = dest.width * dest.height, first = (size_t)p->args.y * dest.width + (size_t)p->args.x;
+    if (n > space) out = grown(out, space = n, sizeof *out);
+    for (size_t r = 0; r < h; r++) memset(out + first + r * dest.width, 0xa5, w * sizeof *out); /* nothing is left of an earlier block */
+    return predict(p, second, part, out, n, dest) == 0 && hashed(out + first, dest.width, w, h) == hash;
+}
+
+static bool prediction_agrees(uint32_t line, bool *whole) {
+    prediction p = prediction_line();
+    if (broken) return false;
+    const prediction *first = first_list(&p), *second = p.list == 1 ? &p : NULL;
+    if (broken) return false;
+    knobspindle_dest_geom larger = {(size_t)p.args.x + p.args.w, (size_t)p.args.y + p.args.h};
+    *whole = predicted(first, second, line, larger, p.args.w, p.args.h, p.whole);
+    return predicted(first, second, line * 7, dest_of(&p), (size_t)p.visible_w, (size_t)p.visible_h, p.visible);
+}
+
+/* on long work */
+static void progress(uint32_t line) {
+    char text[64];
+    if (line % 50000 == 0) write(2, text, (size_t)snprintf(text, sizeof text, "replay: %u lines so far\n", line));
+}
+
 int main(void) {
-    uint32_t searches = 0, wrong_searches = 0, lists = 0, wrong_lists = 0, line = 0;
-    while (peek() >= 0) {
-        int kind = peek();
-        line++;
-        if (kind == 'M' || kind == 'A') {
-            used++;
-            arguments();
-            bool agrees = !broken && (kind == 'M' ? search_agrees() : list_agrees());
-            if (broken) {
-                printf("trace: line %u can't be read\n", line);
-                return 1;
-            }
-            if (kind == 'M') searches++, wrong_searches += !agrees;
-            else lists++, wrong_lists += !agrees;
-            if (!agrees && wrong_searches + wrong_lists == 1) printf("trace: first difference in line %u\n", line);
+    enum { SEARCH, LIST, PREDICTION, KINDS };
+    static const char *const names[KINDS] = {"search", "list", "prediction"};
+    uint32_t calls[KINDS] = {0}, wrong[KINDS] = {0}, wholes = 0, line = 0, differences = 0;
+    read_frames();
+    for (; peek() >= 0; next_line()) {
+        int letter = peek();
+        progress(++line);
+        if (letter == '\n') continue;
+        used++;
+        if (letter == 'F') frame_line();
+        int kind = letter == 'M' ? SEARCH : letter == 'A' ? LIST : letter == 'P' ? PREDICTION : KINDS;
+        bool agrees = true, whole = false;
+        if (kind == SEARCH || kind == LIST) arguments();
+        if (kind == SEARCH && !broken) agrees = search_agrees();
+        if (kind == LIST && !broken) agrees = list_agrees();
+        if (kind == PREDICTION) agrees = prediction_agrees(line, &whole);
+        if (broken) {
+            printf("trace: line %u can't be read (or has no frames)\n", line);
+            return 2;
         }
-        next_line();
+        if (kind == KINDS) continue;
+        calls[kind]++, wrong[kind] += !agrees, wholes += whole;
+        if (!agrees && differences++ < 5) printf("trace: line %u differs\n", line);
     }
-    printf("search: %u calls, %u differences\nlist: %u calls, %u differences\n", searches, wrong_searches, lists, wrong_lists);
-    return line > 0 && wrong_searches + wrong_lists == 0 ? 0 : 1;
+    for (int kind = 0; kind < KINDS; kind++) printf("%s %u calls, %u differences\n", names[kind], calls[kind], wrong[kind]);
+    printf("(whole blocks: %u of %u hashes equal)\n", wholes, calls[PREDICTION]);
+    return line > 0 && differences == 0 ? 0 : 1;
 }
 #endif

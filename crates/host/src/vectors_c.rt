@@ -42,7 +42,7 @@ pub(crate) fn list(mvs: [Mv; 4]) -> [[Eighth; 2]; 4]
     [a, b, c, d]
 }
 
-fn lists(of: BlockMvs) -> [[[Eighth; 2]; 4]; 2]
+pub(crate) fn lists(of: BlockMvs) -> [[[Eighth; 2]; 4]; 2]
     ensures { λ r. ⌜ r ≡ InC.lists of ⌝ }
 {
     let mvs = of.list0;

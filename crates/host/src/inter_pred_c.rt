@@ -1,0 +1,49 @@
+// The call of crate prediction.
+ghost use Rattle.host.specs.InC as InC;
+ghost use Rattle.prediction.specs.Predict.{source, whole, Outcome};
+use crate::vectors_c::BlockMvs;
+use crate::vectors_c::lists;
+use prediction::DestGeom;
+use prediction::FrameGeom;
+use prediction::InterPredArgs;
+use prediction::RefGeom;
+use vectors::BlockGrid;
+
+#[no_mangle]
+pub extern "C" fn knobspindle_predict_inter<'a>(
+    args: InterPredArgs,
+    grid: BlockGrid,
+    frame: FrameGeom,
+    mvs: BlockMvs,
+    geom: RefGeom,
+    upper: &'a [u16],
+    lower: &'a [u16],
+    geom2: RefGeom,
+    upper2: &'a [u16],
+    lower2: &'a [u16],
+    room: &mut [u16],
+    out: &mut [u16],
+    dest: DestGeom,
+) -> u32
+    ensures { λ r. ⌜ Outcome
+        (whole args grid frame (InC.lists mvs) (source geom (now (upper .entry)) (now (lower .entry)))
+        (source geom2 (now (upper2 .entry)) (now (lower2 .entry))) dest)
+        (now (out .entry)) (now (room .entry)) r (now (out .exit)) (now (room .exit)) ⌝ }
+{
+    let of = lists(mvs);
+    prediction::predict_inter(
+        args,
+        grid,
+        frame,
+        of,
+        geom,
+        upper,
+        lower,
+        geom2,
+        upper2,
+        lower2,
+        room,
+        out,
+        dest,
+    )
+}

@@ -1,0 +1,14 @@
+//! The checks for a C program's `main`: a Rust `main` opens a file at its start that the kit's emulator has not.
+
+#[path = "mod.rs"]
+mod checks;
+
+#[no_mangle]
+pub extern "C" fn wrapper_checks() {
+    checks::vectors();
+    checks::candidates();
+    checks::samples();
+    checks::whole_prediction();
+    checks::cut_into_rectangles();
+    println!("the Rust wrapper: 5 tests passed");
+}
