@@ -148,7 +148,7 @@ fn row_runs(
 
 // A row of copies near an edge.
 pub fn row_held(row: &[u16], last: usize, b: usize, w: usize, max: u16, out: &mut [u16], at: usize)
-    requires { ⌜ (last < length (now row)) × (last ≤ 65535) × (b ≤ 400003) × (w ≤ 64) × (at + w ≤ length (now out)) ⌝ }
+    requires { ⌜ (last < length (now row)) × (b ≤ 400003) × (w ≤ 64) × (at + w ≤ length (now out)) ⌝ }
     ensures { λ _. ⌜ now (out .exit) ≡ fill (now (out .entry)) at w (still max (now (row .entry)) last b) ⌝ }
 {
     let before = smaller(beyond(200003, b), w);

@@ -2,8 +2,9 @@
 -- cites this file; proofs/Bridge.antt joins it to those that do. Assumes nothing.
 use Prim.Native.Nat.{ℕ, _+_, _-_, _*_, _/_, _%_, _≤_, _<_, min}
 use mathlib.Core.Path.{_≡_}
-use mathlib.Core.Bool.{true, _&&_}
+use mathlib.Core.Bool.{Bool, true, _&&_}
 use mathlib.Core.List.{List}
+use lib.Dec.{leb}
 use lib.IntN.{ℤ, pos}
 use lib.ListN.{getD}
 use Rattle.base.specs.Number.{within}
@@ -20,6 +21,15 @@ view w h stride k upper lower = lent (record { width = pos w; height = pos h; st
 unfoldable pub acrossFrom : ℕ → (ℕ → ℕ → ℤ) → Lent → ℕ → ℕ → ℕ → ℕ → ℕ → ℕ
 acrossFrom max taps p start step y0 i c =
     level max taps (plane p (min (y0 + i - 200003) (heightOf (p .geom) - 1))) (widthOf (p .geom) - 1) (start + step * c)
+
+-- rows of copies: row i is the lifted row y0 + i, held, and column c the lifted column b + c, held
+unfoldable pub copyFrom : ℕ → Lent → ℕ → ℕ → ℕ → ℕ → ℕ
+copyFrom max p b y0 i c =
+    min (plane p (min (y0 + i - 200003) (heightOf (p .geom) - 1)) (min (b + c - 200003) (widthOf (p .geom) - 1))) max
+
+-- n lifted columns, or rows, from b on are all among m
+unfoldable pub inside : ℕ → ℕ → ℕ → Bool
+inside b n m = leb 200003 b && leb (b - 200003 + n) m
 
 -- the vertical pass over a room whose rows are 64 apart
 unfoldable pub downAt : ℕ → (ℕ → ℕ → ℤ) → List ℕ → ℕ → ℕ → ℕ → ℕ → ℕ

@@ -57,7 +57,7 @@ smaller-requires-3 : tie.Need-smaller-requires-3
 smaller-requires-3 c κs = search needs
 
 add-beyond-3 : tie.Need-add-beyond-3
-add-beyond-3 c = let s = entry c in fits-in _ _ (fit c .0) (s .pre .3)
+add-beyond-3 c = let s = entry c in fits-in _ _ (fit c .0) (s .pre .2)
 
 beyond-requires-4 : tie.Need-beyond-requires-4
 beyond-requires-4 c κs = search needs
@@ -67,7 +67,7 @@ row-runs-requires c κs =
     let b = c .before in
     let i = b .before in
     let s = entry i in
-    (s .pre .0, row-in _ _ _ (fit i .1) (s .pre .0), all-in _ _ _ _ _ _ (fit i .0) (b .beyond4 .ensures) (s .pre .4))
+    (s .pre .0, row-in _ _ _ (fit i .1) (s .pre .0), all-in _ _ _ _ _ _ (fit i .0) (b .beyond4 .ensures) (s .pre .3))
 
 same-length : tie.Need-same-length
 same-length c = search needs
