@@ -11,7 +11,8 @@ use Rattle.base.proofs.Painted.{fill-same, paint-at, paint-else, paint-same, pa
 use Rattle.kernels.specs.Taps.{tap}
 use Rattle.samples.specs.Plane.{Lent, plane, rowOf, widthOf, heightOf}
 use Rattle.kernels.specs.Kernel.{apart, ran, seat, level, listed, levels, meanOf, Below}
-use Rattle.samples.specs.Lifted.{acrossFrom, downAt, blockAt, meanWith, HeldRoom}
+use Rattle.kernels.specs.Copy.{onward}
+use Rattle.samples.specs.Lifted.{acrossFrom, downAt, blockAt, meanWith, roomAt, HeldRoom}
 use Rattle.samples.proofs.Bands.{row-at}
 use Rattle.kernels.proofs.Filtered.{samples-same, filtered-whole, filtered-max}
 
@@ -74,6 +75,14 @@ mean-unpainted out stride w r f g m ws =
     = paint-else out stride w r f (r * stride + c)
     (λ i k ir kw q. omega (arith, suc-mul i stride, mul-le-mul-right stride ir)) in
     rw e)
+
+-- whole rows left in the room
+pub room-whole : (max filter : ℕ) (p : Lent) (sx stepx sy w h : ℕ) (room : List ℕ) → filter < 4 → sy % 16 ≡ 0 → w ≤ 64 → (h - 1) * 64 + w ≤ length room
+    → (r c : ℕ) → r < h → c < w
+    → roomAt (paint room 64 w h (acrossFrom max (tap filter) p sx stepx (sy / 16 + 3))) r c ≡ blockAt max (tap filter) p sx stepx sy 16 r c
+unfolding roomAt onward
+room-whole max filter p sx stepx sy w h room f4 z w64 long r c rh cw =
+    paint-at room 64 w h (acrossFrom max (tap filter) p sx stepx (sy / 16 + 3)) w64 long r c rh cw ∙ whole-rows max filter p sx stepx sy r c f4 z
 
 -- means taken in place of a painted rectangle
 pub mean-painted : (out : List ℕ) (stride w h : ℕ) (f g : ℕ → ℕ → ℕ) → w ≤ stride → (h - 1) * stride + w ≤ length out

@@ -9,6 +9,7 @@ use lib.IntN.{ℤ, pos}
 use lib.ListN.{getD}
 use Rattle.base.specs.Number.{within}
 use Rattle.kernels.specs.Kernel.{ran, level, meanOf}
+use Rattle.kernels.specs.Copy.{onward}
 use Rattle.samples.specs.Plane.{Lent, lent, plane, widthOf, heightOf, sized, fits}
 use Rattle.samples.specs.Call.{Ref, kind, starts}
 use Rattle.samples.specs.declared.block_inter_pred.BlockShape.{BlockShape}
@@ -43,6 +44,10 @@ blockAt max taps p sx stepx sy stepy r c =
 -- the same of a rectangle of the output, row by row
 unfoldable pub meanWith : List ℕ → ℕ → (ℕ → ℕ → ℕ) → ℕ → ℕ → ℕ
 meanWith out stride f r = meanOf out (r * stride) (f r)
+
+-- the rows of a room
+unfoldable pub roomAt : List ℕ → ℕ → ℕ → ℕ
+roomAt room r = onward room (r * 64)
 
 -- the first n rows of w numbers of the room, 64 apart, are at most max
 pub record HeldRoom (max : ℕ) (room : List ℕ) (n w : ℕ) : Type 0 where

@@ -8,11 +8,12 @@ ghost use Rattle.kernels.specs.Taps.{filters, tap};
 ghost use Rattle.samples.specs.Plane.{holds, fits};
 ghost use Rattle.kernels.specs.Kernel.{IsTaps};
 ghost use Rattle.samples.specs.Lifted as Lifted;
-ghost use Rattle.samples.specs.Lifted.{view, acrossFrom, copyFrom, downAt, blockAt, meanWith, HeldRoom};
+ghost use Rattle.samples.specs.Lifted.{view, acrossFrom, copyFrom, downAt, blockAt, meanWith, roomAt, HeldRoom};
 use crate::plane::plane_row;
 use kernels::Taps;
 use kernels::held;
 use kernels::row_across;
+use kernels::row_averaged;
 use kernels::row_down;
 use kernels::row_down_mean;
 use kernels::row_held;
@@ -79,12 +80,12 @@ fn rows_held<'a>(
     ensures { λ _. ⌜ now (out .exit) ≡ paint (now (out .entry)) rs w n
         (copyFrom max (view pw ph stride k (now (upper .entry)) (now (lower .entry))) b y0) ⌝ }
 {
-    let mut i = 0;
-    while i < n {
-        let y = held(y0 + i, ph - 1);
+    let mut j = 0;
+    while j < n {
+        let y = held(y0 + j, ph - 1);
         let r = plane_row(upper, lower, pw, ph, stride, k, y);
-        row_held(r, pw - 1, b, w, max, out, i * rs);
-        i += 1;
+        row_held(r, pw - 1, b, w, max, out, j * rs);
+        j += 1;
     }
 }
 
@@ -258,6 +259,19 @@ fn pass_down_mean(
     }
 }
 
+// The first h rows of the room, averaged into the output.
+fn rows_averaged(room: &[u16], w: usize, h: usize, out: &mut [u16], stride: usize)
+    requires { ⌜ (w ≤ 64) × (h ≤ 64) × (8576 ≤ length (now room)) × (w ≤ stride) ⌝ }
+    requires { ⌜ holds h stride w (length (now out)) ≡ true ⌝ }
+    ensures { λ _. ⌜ now (out .exit) ≡ paint (now (out .entry)) stride w h (meanWith (now (out .entry)) stride (roomAt (now (room .entry)))) ⌝ }
+{
+    let mut r = 0;
+    while r < h {
+        row_averaged(room, r * 64, w, out, r * stride);
+        r += 1;
+    }
+}
+
 // A block from one reference. Whole rows in steps of 16 need no vertical pass.
 pub(crate) fn block<'a>(
     upper: &'a [u16],
@@ -355,12 +369,29 @@ pub(crate) fn block_mean<'a>(
         (meanWith (now (out .entry)) ostride
         (blockAt max (tap filter) (view pw ph stride k (now (upper .entry)) (now (lower .entry))) sx stepx sy stepy)) ⌝ }
 {
-    let table = subpel_filters();
-    let p = taps_at(&table, filter, sx % 16);
+    if (sy % 16 == 0) & (stepy == 16) {
+        pass_rows(
+            upper,
+            lower,
+            pw,
+            ph,
+            stride,
+            k,
+            sx,
+            stepx,
+            sy / 16 + 3,
+            h,
+            filter,
+            w,
+            max,
+            room,
+            64,
+        );
+        rows_averaged(room, w, h, out, ostride);
+        return;
+    }
     let n = (sy % 16 + stepy * (h - 1)) / 16 + 8;
-    pass_across(
-        &table,
-        p,
+    pass_rows(
         upper,
         lower,
         pw,
@@ -371,10 +402,12 @@ pub(crate) fn block_mean<'a>(
         stepx,
         sy / 16,
         n,
+        filter,
         w,
         max,
         room,
         64,
     );
+    let table = subpel_filters();
     pass_down_mean(&table, filter, room, sy, stepy, w, h, max, out, ostride)
 }

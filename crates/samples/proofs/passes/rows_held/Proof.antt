@@ -1,4 +1,4 @@
--- `samples::passes::rows_held` meets its contract. The loop keeps up that the first i rows are painted. Assumes nothing.
+-- `samples::passes::rows_held` meets its contract. The loop keeps up that the first j rows are painted. Assumes nothing.
 use mathlib.Core.Path.{_≡_, ap, _∙_}
 use Prim.Native.Nat.{_+_, _-_, _*_, _≤_}
 use native.Mathlib.Omega.{arith}
@@ -16,19 +16,19 @@ use Rattle.samples.proofs.passes.rows_held.Statement.{statement}
 use Rattle.samples.proofs.passes.rows_held.Tie as tie
 
 abbrev Inv-loop : tie.InvT-loop
-Inv-loop upper lower pw ph stride k b y0 n w max out₀ rs i₀ out i =
-    (i ≤ n) × Painting out₀ rs w i (copyFrom max (view pw ph stride k upper lower) b y0) out
+Inv-loop upper lower pw ph stride k b y0 n w max out₀ rs j₀ out j =
+    (j ≤ n) × Painting out₀ rs w j (copyFrom max (view pw ph stride k upper lower) b y0) out
 
 abbrev μ-loop : tie.MeasureT-loop
-μ-loop upper lower pw ph stride k b y0 n w max out₀ rs i₀ out i = n - i
+μ-loop upper lower pw ph stride k b y0 n w max out₀ rs j₀ out j = n - j
 
 abbrev start : tie.In-loop Inv-loop μ-loop → tie.Start Inv-loop μ-loop
 start c = let l = c .before .before in l .before .before .before
 
--- row i is inside the output
+-- row j is inside the output
 in-out : (c : tie.In-loop Inv-loop μ-loop) → let l = c .before .before in let m = l .before .before .before in let a = m .args in
-    c .before .loop .i * a .rs + a .w ≤ length (a .out .now)
-in-out c = let a = start c .args in holds-row (a .n) (a .rs) (a .w) (length (a .out .now)) (c .before .loop .i) (start c .pre .1 .1) (omega arith)
+    c .before .loop .j * a .rs + a .w ≤ length (a .out .now)
+in-out c = let a = start c .args in holds-row (a .n) (a .rs) (a .w) (length (a .out .now)) (c .before .loop .j) (start c .pre .1 .1) (omega arith)
 
 loop-holds : tie.Need-loop-holds Inv-loop μ-loop
 loop-holds c = (omega arith, paint-none _ _ _ _)
@@ -59,8 +59,8 @@ row-held-requires c κs =
     let s = start i in
     omega (arith, s .pre, in-out i, c .before .plane-row .ensures .1)
 
-add-i : tie.Need-add-i Inv-loop μ-loop
-add-i c = omega arith
+add-j : tie.Need-add-j Inv-loop μ-loop
+add-j c = omega arith
 
 loop-less : tie.Need-loop-less Inv-loop μ-loop
 loop-less c = omega arith
@@ -86,7 +86,7 @@ same-length : tie.Need-same-length Inv-loop μ-loop
 same-length c = c .before .loop .inv .1 .long
 
 returns : tie.Need-returns Inv-loop μ-loop
-returns c = let l = c .before in let m = l .before .before .before in let e : l .loop .i ≡ m .before .args .n = omega arith in rw e at (l .loop .inv .1 .is)
+returns c = let l = c .before in let m = l .before .before .before in let e : l .loop .j ≡ m .before .args .n = omega arith in rw e at (l .loop .inv .1 .is)
 
 pub rows-held-spec : {M : Type 1} → statement M
 rows-held-spec =
@@ -102,7 +102,7 @@ rows-held-spec =
     sub-row-held
     mul-row-held
     row-held-requires
-    add-i
+    add-j
     loop-less
     loop-again
     same-length
