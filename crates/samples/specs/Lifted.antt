@@ -2,16 +2,17 @@
 -- cites this file; proofs/Bridge.antt joins it to those that do. Assumes nothing.
 use Prim.Native.Nat.{ℕ, _+_, _-_, _*_, _/_, _%_, _≤_, _<_, min}
 use mathlib.Core.Path.{_≡_}
-use mathlib.Core.Bool.{Bool, true, _&&_}
-use mathlib.Core.List.{List}
-use lib.Dec.{leb}
+use mathlib.Core.Bool.{Bool, true, _&&_, cond}
+use mathlib.Core.List.{List, [], _∷_}
+use lib.Dec.{leb, eqb}
 use lib.IntN.{ℤ, pos}
 use lib.ListN.{getD}
+use Rattle.base.specs.Answer.{row, answer, BLOCK, FILTER, SIZE, START, SHORT}
 use Rattle.base.specs.Number.{within}
 use Rattle.kernels.specs.Kernel.{ran, level, meanOf}
 use Rattle.kernels.specs.Copy.{onward}
 use Rattle.samples.specs.Plane.{Lent, lent, plane, widthOf, heightOf, sized, fits}
-use Rattle.samples.specs.Call.{Ref, kind, starts}
+use Rattle.samples.specs.Call.{Ref, call, kind, starts, outFits}
 use Rattle.samples.specs.declared.block_inter_pred.BlockShape.{BlockShape}
 
 -- a plane lent in plain numbers
@@ -52,6 +53,21 @@ roomAt room r = onward room (r * 64)
 -- the first n rows of w numbers of the room, 64 apart, are at most max
 pub record HeldRoom (max : ℕ) (room : List ℕ) (n w : ℕ) : Type 0 where
   pub le : (i c : ℕ) → i < n → c < w → getD room (i * 64 + c) 0 ≤ max
+
+-- the number of a call with one reference
+unfoldable pub numberOne : BlockShape → Ref → ℕ → ℕ → ℕ → ℕ
+numberOne b p stride n m =
+    answer
+    (row BLOCK (within 1 64 (b .w) && within 1 64 (b .h))
+    ∷ row FILTER (kind b)
+    ∷ row SIZE (sized (p .lent .geom))
+    ∷ row START (starts (p .from))
+    ∷ row SHORT (fits (p .lent) && outFits (call b p p stride) n m)
+    ∷ [])
+
+-- the lower of two numbers, where 0 is none
+unfoldable pub lowest : ℕ → ℕ → ℕ
+lowest a b = cond (eqb a 0) b (cond (eqb b 0) a (min a b))
 
 -- a block and a reference that passed their tests
 pub record Legal (b : BlockShape) (p : Ref) : Type 0 where
