@@ -37,6 +37,10 @@ inside b n m = leb 200003 b && leb (b - 200003 + n) m
 unfoldable pub downAt : ℕ → (ℕ → ℕ → ℤ) → List ℕ → ℕ → ℕ → ℕ → ℕ → ℕ
 downAt max taps room start step r = ran max (taps ((start + step * r) % 16)) room 64 (((start + step * r) / 16 - start / 16) * 64)
 
+-- the same in steps of 16, with the taps of its one phase
+unfoldable pub downEven : ℕ → (ℕ → ℤ) → List ℕ → ℕ → ℕ → ℕ
+downEven max f room r = ran max f room 64 (r * 64)
+
 -- both passes
 unfoldable pub blockAt : ℕ → (ℕ → ℕ → ℤ) → Lent → ℕ → ℕ → ℕ → ℕ → ℕ → ℕ → ℕ
 blockAt max taps p sx stepx sy stepy r c =

@@ -8,7 +8,7 @@ ghost use Rattle.kernels.specs.Taps.{filters, tap};
 ghost use Rattle.samples.specs.Plane.{holds, fits};
 ghost use Rattle.kernels.specs.Kernel.{IsTaps};
 ghost use Rattle.samples.specs.Lifted as Lifted;
-ghost use Rattle.samples.specs.Lifted.{view, acrossFrom, copyFrom, downAt, blockAt, meanWith, roomAt, HeldRoom};
+ghost use Rattle.samples.specs.Lifted.{view, acrossFrom, copyFrom, downAt, downEven, blockAt, meanWith, roomAt, HeldRoom};
 use crate::plane::plane_row;
 use kernels::Taps;
 use kernels::held;
@@ -200,8 +200,31 @@ fn pass_rows<'a>(
     )
 }
 
-// The vertical pass: h rows of the output.
-fn pass_down(
+// The vertical pass where the phase is one for all rows.
+fn pass_down_even(
+    p: Taps,
+    room: &[u16],
+    w: usize,
+    h: usize,
+    max: u16,
+    out: &mut [u16],
+    stride: usize,
+)
+    requires { ⌜ IsTaps p ⌝ }
+    requires { ⌜ (p .filter < 4) × (p .phase < 16) × (w ≤ 64) × (h ≤ 64) × (8576 ≤ length (now room)) ⌝ }
+    requires { ⌜ holds h stride w (length (now out)) ≡ true ⌝ }
+    requires { ⌜ HeldRoom max (now room) (h + 7) w ⌝ }
+    ensures { λ _. ⌜ now (out .exit) ≡ paint (now (out .entry)) stride w h (downEven max (tap (p .filter) (p .phase)) (now (room .entry))) ⌝ }
+{
+    let mut r = 0;
+    while r < h {
+        row_down(p, room, r * 64, w, max, out, r * stride);
+        r += 1;
+    }
+}
+
+// The vertical pass where the phase changes from row to row.
+fn pass_down_stepped(
     table: &[[[i16; 8]; 16]; 4],
     filter: usize,
     room: &[u16],
@@ -227,6 +250,33 @@ fn pass_down(
         row_down(p, room, b * 64, w, max, out, r * stride);
         r += 1;
     }
+}
+
+// The vertical pass: h rows of the output.
+fn pass_down(
+    table: &[[[i16; 8]; 16]; 4],
+    filter: usize,
+    room: &[u16],
+    start: usize,
+    step: usize,
+    w: usize,
+    h: usize,
+    max: u16,
+    out: &mut [u16],
+    stride: usize,
+)
+    requires { ⌜ now table ≡ filters ⌝ }
+    requires { ⌜ (filter < 4) × (start ≤ 6400000) × (step ≤ 32) × (w ≤ 64) × (h ≤ 64) × (8576 ≤ length (now room)) ⌝ }
+    requires { ⌜ holds h stride w (length (now out)) ≡ true ⌝ }
+    requires { ⌜ HeldRoom max (now room) ((start % 16 + step * (h - 1)) / 16 + 8) w ⌝ }
+    ensures { λ _. ⌜ now (out .exit) ≡ paint (now (out .entry)) stride w h (downAt max (tap filter) (now (room .entry)) start step) ⌝ }
+{
+    if step == 16 {
+        let p = taps_at(table, filter, start % 16);
+        pass_down_even(p, room, w, h, max, out, stride);
+        return;
+    }
+    pass_down_stepped(table, filter, room, start, step, w, h, max, out, stride)
 }
 
 // The vertical pass, averaged into the output.

@@ -97,7 +97,8 @@ returns c =
     let s1 = x1 .before .before in
     let s = s1 .before .before in
     let a = s .args in
-    rw (x1 .lesser .ensures, x2 .lesser2 .ensures, x3 .lesser3 .ensures, c .lesser4 .ensures) (rw add-zero at (four-is (a .out .now) (a .o) (clipped (a .max) (a .l .now) (a .s))))
+    rw (x1 .lesser .ensures, x2 .lesser2 .ensures, x3 .lesser3 .ensures, c .lesser4 .ensures)
+    (rw add-zero at (four-is (a .out .now) (a .o) (clipped (a .max) (a .l .now) (a .s))))
 
 pub four-spec : {M : Type 1} → statement M
 four-spec =

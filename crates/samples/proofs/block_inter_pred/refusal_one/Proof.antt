@@ -120,7 +120,8 @@ returns-5 c =
     let e3 = e4 .before .before in
     let e2 = e3 .before .before in
     let e1 = e2 .before .before in
-    at-bands _ _ _ _ (bands (start5 k)) (room (start5 k)) (ok1 e1) (ok2 e2) (ok3 e3) (ok4 e4) (sym (k .fits2 .ensures) ∙ not-true (k .fits2 .result) (c .if5 .taken))
+    at-bands _ _ _ _ (bands (start5 k)) (room (start5 k)) (ok1 e1) (ok2 e2) (ok3 e3) (ok4 e4)
+    (sym (k .fits2 .ensures) ∙ not-true (k .fits2 .result) (c .if5 .taken))
 
 out-fits-requires : tie.Need-out-fits-requires
 out-fits-requires c κs = search needs
