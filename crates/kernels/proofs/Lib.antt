@@ -1,4 +1,5 @@
 pub mod Casts
+pub mod Copies
 pub mod Filtered
 pub mod Lines
 pub mod Loops

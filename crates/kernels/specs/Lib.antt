@@ -1,3 +1,4 @@
 pub mod Taps
 pub mod Filter
 pub mod Kernel
+pub mod Copy

@@ -1,8 +1,12 @@
 // The rows that block prediction is made of: the filters' taps, and rows of results over lists of samples. Only `samples` calls it.
+mod copy;
 mod down;
 mod rows;
 mod taps;
 
+pub use copy::row_averaged;
+pub use copy::row_held;
+pub use copy::rows_copied;
 pub use down::row_down;
 pub use down::row_down_mean;
 pub use rows::held;

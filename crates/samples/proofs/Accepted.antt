@@ -14,19 +14,99 @@ use Rattle.base.specs.Paint.{paint}
 use Rattle.base.specs.Position.{toN}
 use Rattle.base.proofs.Answered.{unless-zero}
 use Rattle.base.proofs.Tests.{clash, and-both, within-both, between-abs}
-use Rattle.samples.specs.Plane.{widthOf, heightOf, holds, sized}
+use Rattle.samples.specs.Plane.{widthOf, heightOf, holds, sized, fits}
 use Rattle.samples.specs.Call.{Ref, Call, also, kind, starts, fromRef, value, numberOf, outFits, after}
-use Rattle.samples.specs.Lifted.{Legal}
+use Rattle.samples.specs.Lifted.{numberOne, lowest, Legal}
 use Rattle.samples.specs.Sample.{blend}
 use Rattle.samples.specs.declared.block_inter_pred.BlockShape.{BlockShape}
 
--- the last row's last test matters only where the first row passes
-pub table-same : (t1 t4 t5 t6 f a b : Bool) → (t1 ≡ true → a ≡ b)
-    → unless 1 t1 (unless 4 t4 (unless 5 t5 (unless 6 t6 (unless 7 (f && a) 0))))
-    ≡ unless 1 t1 (unless 4 t4 (unless 5 t5 (unless 6 t6 (unless 7 (f && b) 0))))
-unfolding unless
-table-same true t4 t5 t6 f a b e = rw (e refl)
-table-same false t4 t5 t6 f a b e = refl
+-- the table of one reference, left at each of its rows
+module _ (t1 t4 t5 t6 f o : Bool) where
+  abbrev chain : ℕ
+  chain = unless 1 t1 (unless 4 t4 (unless 5 t5 (unless 6 t6 (unless 7 (f && o) 0))))
+
+  pub at-block : t1 ≡ false → 1 ≡ chain
+  unfolding unless
+  at-block e = rw e refl
+
+  pub at-filter : t1 ≡ true → t4 ≡ false → 4 ≡ chain
+  unfolding unless
+  at-filter e1 e = rw (e1, e) refl
+
+  pub at-size : t1 ≡ true → t4 ≡ true → t5 ≡ false → 5 ≡ chain
+  unfolding unless
+  at-size e1 e4 e = rw (e1, e4, e) refl
+
+  pub at-start : t1 ≡ true → t4 ≡ true → t5 ≡ true → t6 ≡ false → 6 ≡ chain
+  unfolding unless
+  at-start e1 e4 e5 e = rw (e1, e4, e5, e) refl
+
+  pub at-bands : t1 ≡ true → t4 ≡ true → t5 ≡ true → t6 ≡ true → f ≡ false → 7 ≡ chain
+  unfolding unless
+  at-bands e1 e4 e5 e6 e = rw (e1, e4, e5, e6, e) refl
+
+  pub at-room : t1 ≡ true → t4 ≡ true → t5 ≡ true → t6 ≡ true → f ≡ true → o ≡ false → 7 ≡ chain
+  unfolding unless
+  at-room e1 e4 e5 e6 e7 e = rw (e1, e4, e5, e6, e7, e) refl
+
+  pub at-end : t1 ≡ true → t4 ≡ true → t5 ≡ true → t6 ≡ true → f ≡ true → o ≡ true → 0 ≡ chain
+  unfolding unless
+  at-end e1 e4 e5 e6 e7 e = rw (e1, e4, e5, e6, e7, e) refl
+
+and-true : (t : Bool) → (t && true) ≡ t
+and-true true = refl
+and-true false = refl
+
+-- without averaging the table is that of one reference
+pub number-alone : (a : Call) (n m : ℕ) → a .shape .average ≡ false → numberOne (a .shape) (a .one) (a .stride) n m ≡ numberOf a n m
+unfolding numberOne numberOf outFits
+number-alone a n m e = rw (e, and-true, and-true, and-true) refl
+
+-- the last two rows of two references
+rest : (s f o : Bool) → ℕ
+rest s f o = unless 6 s (unless 7 (f && o) 0)
+
+rest-both : (s s' f f' o : Bool) → lowest (rest s f o) (rest s' f' o) ≡ unless 6 (s && s') (unless 7 (f && f' && o) 0)
+unfolding rest unless lowest
+rest-both false false f f' o = refl
+rest-both false true f false o = refl
+rest-both false true f true false = refl
+rest-both false true f true true = refl
+rest-both true false false f' o = refl
+rest-both true false true f' false = refl
+rest-both true false true f' true = refl
+rest-both true true false false o = refl
+rest-both true true false true false = refl
+rest-both true true false true true = refl
+rest-both true true true false false = refl
+rest-both true true true false true = refl
+rest-both true true true true false = refl
+rest-both true true true true true = refl
+
+-- a size that is refused is lower than those
+five : (s f o : Bool) → (lowest 5 (rest s f o) ≡ 5) × (lowest (rest s f o) 5 ≡ 5)
+unfolding rest unless lowest
+five false f o = (refl, refl)
+five true false o = (refl, refl)
+five true true false = (refl, refl)
+five true true true = (refl, refl)
+
+all-both : (t1 t4 z z' s s' f f' o : Bool)
+    → lowest (unless 1 t1 (unless 4 t4 (unless 5 z (rest s f o)))) (unless 1 t1 (unless 4 t4 (unless 5 z' (rest s' f' o))))
+    ≡ unless 1 t1 (unless 4 t4 (unless 5 (z && z') (unless 6 (s && s') (unless 7 (f && f' && o) 0))))
+unfolding unless lowest
+all-both false t4 z z' s s' f f' o = refl
+all-both true false z z' s s' f f' o = refl
+all-both true true false false s s' f f' o = refl
+all-both true true false true s s' f f' o = five s' f' o .0
+all-both true true true false s s' f f' o = five s f o .1
+all-both true true true true s s' f f' o = rest-both s s' f f' o
+
+-- with it, the lower of the two references' numbers
+pub number-both : (a : Call) (n m : ℕ) → a .shape .average ≡ true
+    → lowest (numberOne (a .shape) (a .one) (a .stride) n m) (numberOne (a .shape) (a .two) (a .stride) n m) ≡ numberOf a n m
+unfolding numberOne numberOf outFits rest
+number-both a n m e = rw e (all-both _ _ _ _ _ _ (fits (a .one .lent)) (fits (a .two .lent)) (outFits a n m))
 
 -- a test that fails where its first part passes fails in its second
 pub second-fails : (a b : Bool) → a ≡ true → (a && b) ≡ false → b ≡ false

@@ -1,5 +1,5 @@
 -- The passes put together: a row of a plane, phase 0 down, and the vertical pass over what the horizontal one left. Assumes nothing.
-use mathlib.Core.Path.{_≡_, sym, ap, _∙_}
+use mathlib.Core.Path.{_≡_, refl, sym, ap, _∙_}
 use mathlib.Core.List.{List}
 use Prim.Native.Nat.{ℕ, _+_, _-_, _*_, _/_, _%_, _<_, _≤_}
 use native.Mathlib.Nat.{mul-le-mul-left, mul-le-mul-right, suc-mul, min-le-right, min-eq-left}
@@ -11,7 +11,8 @@ use Rattle.base.proofs.Painted.{fill-same, paint-at, paint-else, paint-same, pa
 use Rattle.kernels.specs.Taps.{tap}
 use Rattle.samples.specs.Plane.{Lent, plane, rowOf, widthOf, heightOf}
 use Rattle.kernels.specs.Kernel.{apart, ran, seat, level, listed, levels, meanOf, Below}
-use Rattle.samples.specs.Lifted.{acrossFrom, downAt, blockAt, meanWith, HeldRoom}
+use Rattle.kernels.specs.Copy.{onward}
+use Rattle.samples.specs.Lifted.{acrossFrom, downAt, downEven, blockAt, meanWith, roomAt, HeldRoom}
 use Rattle.samples.proofs.Bands.{row-at}
 use Rattle.kernels.proofs.Filtered.{samples-same, filtered-whole, filtered-max}
 
@@ -75,6 +76,14 @@ mean-unpainted out stride w r f g m ws =
     (λ i k ir kw q. omega (arith, suc-mul i stride, mul-le-mul-right stride ir)) in
     rw e)
 
+-- whole rows left in the room
+pub room-whole : (max filter : ℕ) (p : Lent) (sx stepx sy w h : ℕ) (room : List ℕ) → filter < 4 → sy % 16 ≡ 0 → w ≤ 64 → (h - 1) * 64 + w ≤ length room
+    → (r c : ℕ) → r < h → c < w
+    → roomAt (paint room 64 w h (acrossFrom max (tap filter) p sx stepx (sy / 16 + 3))) r c ≡ blockAt max (tap filter) p sx stepx sy 16 r c
+unfolding roomAt onward
+room-whole max filter p sx stepx sy w h room f4 z w64 long r c rh cw =
+    paint-at room 64 w h (acrossFrom max (tap filter) p sx stepx (sy / 16 + 3)) w64 long r c rh cw ∙ whole-rows max filter p sx stepx sy r c f4 z
+
 -- means taken in place of a painted rectangle
 pub mean-painted : (out : List ℕ) (stride w h : ℕ) (f g : ℕ → ℕ → ℕ) → w ≤ stride → (h - 1) * stride + w ≤ length out
     → paint (paint out stride w h f) stride w h (meanWith (paint out stride w h f) stride g)
@@ -105,3 +114,26 @@ below-row max room w start step r h held rh = record {
       let place : ((start + step * r) / 16 - start / 16) * 64 + c + 64 * t ≡ i * 64 + c = omega arith in
       rw place (held .le i c (omega arith) cw);
 }
+
+-- in steps of 16
+pub below-even : (max : ℕ) (room : List ℕ) (w r h : ℕ) → HeldRoom max room (h + 7) w → r < h → Below max room (r * 64) w
+unfolding apart
+below-even max room w r h held rh = record {
+  le = λ c t cw t8.
+      let place : r * 64 + c + 64 * t ≡ (r + t) * 64 + c = omega arith in
+      rw place (held .le (r + t) c (omega arith) cw);
+}
+
+pub held-even : (max : ℕ) (room : List ℕ) (start step h w : ℕ) → step ≡ 16 → HeldRoom max room ((start % 16 + step * (h - 1)) / 16 + 8) w
+    → HeldRoom max room (h + 7) w
+held-even max room start step h w e held = record {
+  le = λ i c ih cw. let far : step * (h - 1) ≡ 16 * (h - 1) = ap (λ (k : ℕ). k * (h - 1)) e in held .le i c (omega arith) cw;
+}
+
+pub down-even : (max : ℕ) (taps : ℕ → ℕ → ℤ) (room : List ℕ) (start r c : ℕ)
+    → downEven max (taps (start % 16)) room r c ≡ downAt max taps room start 16 r c
+unfolding downEven downAt
+down-even max taps room start r c =
+    let phase : (start + 16 * r) % 16 ≡ start % 16 = omega arith in
+    let row : (start + 16 * r) / 16 - start / 16 ≡ r = omega arith in
+    rw (phase, row) refl

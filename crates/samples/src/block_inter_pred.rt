@@ -11,8 +11,9 @@ ghost use Rattle.base.proofs.Lift.{Diff};
 ghost use Rattle.samples.specs.Plane as Plane;
 ghost use Rattle.samples.specs.Plane.{lent};
 ghost use Rattle.samples.specs.Call as Call;
-ghost use Rattle.samples.specs.Call.{also, call, fromRef, numberOf, ref, value, Outcome};
-ghost use Rattle.samples.specs.Lifted.{Legal, meanWith};
+ghost use Rattle.samples.specs.Call.{call, fromRef, numberOf, ref, value, Outcome};
+ghost use Rattle.samples.specs.Lifted as Lifted;
+ghost use Rattle.samples.specs.Lifted.{numberOne, Legal, meanWith};
 use crate::passes::block;
 use crate::passes::block_mean;
 use crate::plane::PlaneGeom;
@@ -27,7 +28,6 @@ use base::START;
 use base::Sixteenth;
 use base::between;
 use base::natural;
-use base::unless;
 use base::within;
 
 // The block: its size in samples, which filter, the bit depth, and whether two references are averaged.
@@ -64,29 +64,6 @@ fn starts(from: Stepping) -> bool
         & between(1, 32, from.step_y.0)
 }
 
-// "anything of list 1 only when averaging"
-fn sized_also(average: bool, geom: PlaneGeom) -> bool
-    ensures { λ r. ⌜ r ≡ also average (Plane.sized geom) ⌝ }
-{
-    if average { sized(geom) } else { true }
-}
-
-fn starts_also(average: bool, from: Stepping) -> bool
-    ensures { λ r. ⌜ r ≡ also average (Call.starts from) ⌝ }
-{
-    if average { starts(from) } else { true }
-}
-
-fn fits_also<'a>(average: bool, upper: &'a [u16], lower: &'a [u16], geom: PlaneGeom) -> bool
-    ensures { λ r. ⌜ r ≡ also average (Plane.fits (lent geom (now (upper .entry)) (now (lower .entry)))) ⌝ }
-{
-    if average {
-        fits(upper, lower, geom)
-    } else {
-        true
-    }
-}
-
 // The output of n numbers and the room of m, for a block of at most 64 rows.
 fn out_fits(w: usize, h: usize, stride: usize, n: usize, m: usize) -> bool
     ensures { λ r. ⌜ (h ≤ 64 → r ≡ (Number.within w 131072 stride && Plane.holds h stride w n && leb 8576 m)) ⌝ }
@@ -98,6 +75,54 @@ fn out_fits(w: usize, h: usize, stride: usize, n: usize, m: usize) -> bool
     }
 }
 
+// The number of a call with one reference: each test only where those before it pass.
+fn refusal_one<'a>(
+    shape: BlockShape,
+    geom: PlaneGeom,
+    from: Stepping,
+    upper: &'a [u16],
+    lower: &'a [u16],
+    stride: usize,
+    n: usize,
+    m: usize,
+) -> u32
+    ensures { λ r. ⌜ r ≡ numberOne shape (ref (lent geom (now (upper .entry)) (now (lower .entry))) from) stride n m ⌝ }
+{
+    if !(within(1, 64, shape.w) & within(1, 64, shape.h)) {
+        return BLOCK;
+    }
+    if !kind(shape) {
+        return FILTER;
+    }
+    if !sized(geom) {
+        return SIZE;
+    }
+    if !starts(from) {
+        return START;
+    }
+    if !fits(upper, lower, geom) {
+        return SHORT;
+    }
+    if !out_fits(shape.w, shape.h, stride, n, m) {
+        return SHORT;
+    }
+    0
+}
+
+// The lower of two numbers; 0 is none.
+fn lowest(a: u32, b: u32) -> u32
+    ensures { λ r. ⌜ r ≡ Lifted.lowest a b ⌝ }
+{
+    if a == 0 {
+        return b;
+    }
+    if b == 0 {
+        return a;
+    }
+    if a < b { a } else { b }
+}
+
+// "anything of list 1 only when averaging"
 fn refusal<'a>(
     shape: BlockShape,
     geom: PlaneGeom,
@@ -117,22 +142,12 @@ fn refusal<'a>(
         (ref (lent geom2 (now (upper2 .entry)) (now (lower2 .entry))) from2) stride)
         n m ⌝ }
 {
-    let a = shape.average;
-    let block = within(1, 64, shape.w) & within(1, 64, shape.h);
-    let size = sized(geom) & sized_also(a, geom2);
-    let start = starts(from) & starts_also(a, from2);
-    let room = fits(upper, lower, geom)
-        & fits_also(a, upper2, lower2, geom2)
-        & out_fits(shape.w, shape.h, stride, n, m);
-    unless(
-        BLOCK,
-        block,
-        unless(
-            FILTER,
-            kind(shape),
-            unless(SIZE, size, unless(START, start, unless(SHORT, room, 0))),
-        ),
-    )
+    let one = refusal_one(shape, geom, from, upper, lower, stride, n, m);
+    if shape.average {
+        let two = refusal_one(shape, geom2, from2, upper2, lower2, stride, n, m);
+        return lowest(one, two);
+    }
+    one
 }
 
 // 3,200,000 is a multiple of 16, and more than the lowest start with the taps before it.

@@ -7,13 +7,17 @@ ghost use Rattle.base.specs.Paint.{paint};
 ghost use Rattle.kernels.specs.Taps.{filters, tap};
 ghost use Rattle.samples.specs.Plane.{holds, fits};
 ghost use Rattle.kernels.specs.Kernel.{IsTaps};
-ghost use Rattle.samples.specs.Lifted.{view, acrossFrom, downAt, blockAt, meanWith, HeldRoom};
+ghost use Rattle.samples.specs.Lifted as Lifted;
+ghost use Rattle.samples.specs.Lifted.{view, acrossFrom, copyFrom, downAt, downEven, blockAt, meanWith, roomAt, HeldRoom};
 use crate::plane::plane_row;
 use kernels::Taps;
 use kernels::held;
 use kernels::row_across;
+use kernels::row_averaged;
 use kernels::row_down;
 use kernels::row_down_mean;
+use kernels::row_held;
+use kernels::rows_copied;
 use kernels::subpel_filters;
 use kernels::taps_at;
 
@@ -54,8 +58,173 @@ fn pass_across<'a>(
     }
 }
 
-// The vertical pass: h rows of the output.
-fn pass_down(
+// Rows of copies near an edge: n rows from the lifted row y0 on, w columns each from the lifted column b on.
+fn rows_held<'a>(
+    upper: &'a [u16],
+    lower: &'a [u16],
+    pw: usize,
+    ph: usize,
+    stride: usize,
+    k: usize,
+    b: usize,
+    y0: usize,
+    n: usize,
+    w: usize,
+    max: u16,
+    out: &mut [u16],
+    rs: usize,
+)
+    requires { ⌜ (b ≤ 400003) × (y0 ≤ 400003) × (n ≤ 134) × (w ≤ 64) × (0 < pw) × (0 < ph) ⌝ }
+    requires { ⌜ fits (view pw ph stride k (now upper) (now lower)) ≡ true ⌝ }
+    requires { ⌜ holds n rs w (length (now out)) ≡ true ⌝ }
+    ensures { λ _. ⌜ now (out .exit) ≡ paint (now (out .entry)) rs w n
+        (copyFrom max (view pw ph stride k (now (upper .entry)) (now (lower .entry))) b y0) ⌝ }
+{
+    let mut j = 0;
+    while j < n {
+        let y = held(y0 + j, ph - 1);
+        let r = plane_row(upper, lower, pw, ph, stride, k, y);
+        row_held(r, pw - 1, b, w, max, out, j * rs);
+        j += 1;
+    }
+}
+
+fn inside(b: usize, n: usize, m: usize) -> bool
+    requires { ⌜ (b ≤ 400003) × (n ≤ 134) ⌝ }
+    ensures { λ r. ⌜ r ≡ Lifted.inside b n m ⌝ }
+{
+    if b < 200003 {
+        return false;
+    }
+    b - 200003 + n <= m
+}
+
+// Rows of copies, straight from the band that has them all where nothing has to be held.
+pub(crate) fn pass_copied<'a>(
+    upper: &'a [u16],
+    lower: &'a [u16],
+    pw: usize,
+    ph: usize,
+    stride: usize,
+    k: usize,
+    b: usize,
+    y0: usize,
+    n: usize,
+    w: usize,
+    max: u16,
+    out: &mut [u16],
+    rs: usize,
+)
+    requires { ⌜ (b ≤ 400003) × (y0 ≤ 400003) × (n ≤ 134) × (w ≤ 64) × (0 < pw) × (0 < ph) ⌝ }
+    requires { ⌜ fits (view pw ph stride k (now upper) (now lower)) ≡ true ⌝ }
+    requires { ⌜ holds n rs w (length (now out)) ≡ true ⌝ }
+    ensures { λ _. ⌜ now (out .exit) ≡ paint (now (out .entry)) rs w n
+        (copyFrom max (view pw ph stride k (now (upper .entry)) (now (lower .entry))) b y0) ⌝ }
+{
+    if inside(b, w, pw) & inside(y0, n, ph) {
+        let d = b - 200003;
+        let e = y0 - 200003;
+        if e + n <= k {
+            rows_copied(upper, e * stride + d, stride, w, n, max, out, rs);
+            return;
+        }
+        if k <= e {
+            rows_copied(lower, (e - k) * stride + d, stride, w, n, max, out, rs);
+            return;
+        }
+    }
+    rows_held(upper, lower, pw, ph, stride, k, b, y0, n, w, max, out, rs)
+}
+
+// The horizontal pass, whatever the columns: whole ones in steps of 16 are copies and need no taps.
+fn pass_rows<'a>(
+    upper: &'a [u16],
+    lower: &'a [u16],
+    pw: usize,
+    ph: usize,
+    stride: usize,
+    k: usize,
+    start: usize,
+    step: usize,
+    y0: usize,
+    n: usize,
+    filter: usize,
+    w: usize,
+    max: u16,
+    room: &mut [u16],
+    rs: usize,
+)
+    requires { ⌜ (filter < 4) × (start ≤ 6200000) × (step ≤ 32) × (0 < w) × (w ≤ 64) × (0 < pw) × (0 < ph) × (y0 ≤ 400003) × (n ≤ 134) ⌝ }
+    requires { ⌜ fits (view pw ph stride k (now upper) (now lower)) ≡ true ⌝ }
+    requires { ⌜ holds n rs w (length (now room)) ≡ true ⌝ }
+    ensures { λ _. ⌜ now (room .exit) ≡ paint (now (room .entry)) rs w n
+        (acrossFrom max (tap filter) (view pw ph stride k (now (upper .entry)) (now (lower .entry))) start step y0) ⌝ }
+{
+    if (start % 16 == 0) & (step == 16) {
+        pass_copied(
+            upper,
+            lower,
+            pw,
+            ph,
+            stride,
+            k,
+            start / 16 + 3,
+            y0,
+            n,
+            w,
+            max,
+            room,
+            rs,
+        );
+        return;
+    }
+    let table = subpel_filters();
+    let p = taps_at(&table, filter, start % 16);
+    pass_across(
+        &table,
+        p,
+        upper,
+        lower,
+        pw,
+        ph,
+        stride,
+        k,
+        start,
+        step,
+        y0,
+        n,
+        w,
+        max,
+        room,
+        rs,
+    )
+}
+
+// The vertical pass where the phase is one for all rows.
+fn pass_down_even(
+    p: Taps,
+    room: &[u16],
+    w: usize,
+    h: usize,
+    max: u16,
+    out: &mut [u16],
+    stride: usize,
+)
+    requires { ⌜ IsTaps p ⌝ }
+    requires { ⌜ (p .filter < 4) × (p .phase < 16) × (w ≤ 64) × (h ≤ 64) × (8576 ≤ length (now room)) ⌝ }
+    requires { ⌜ holds h stride w (length (now out)) ≡ true ⌝ }
+    requires { ⌜ HeldRoom max (now room) (h + 7) w ⌝ }
+    ensures { λ _. ⌜ now (out .exit) ≡ paint (now (out .entry)) stride w h (downEven max (tap (p .filter) (p .phase)) (now (room .entry))) ⌝ }
+{
+    let mut r = 0;
+    while r < h {
+        row_down(p, room, r * 64, w, max, out, r * stride);
+        r += 1;
+    }
+}
+
+// The vertical pass where the phase changes from row to row.
+fn pass_down_stepped(
     table: &[[[i16; 8]; 16]; 4],
     filter: usize,
     room: &[u16],
@@ -81,6 +250,33 @@ fn pass_down(
         row_down(p, room, b * 64, w, max, out, r * stride);
         r += 1;
     }
+}
+
+// The vertical pass: h rows of the output.
+fn pass_down(
+    table: &[[[i16; 8]; 16]; 4],
+    filter: usize,
+    room: &[u16],
+    start: usize,
+    step: usize,
+    w: usize,
+    h: usize,
+    max: u16,
+    out: &mut [u16],
+    stride: usize,
+)
+    requires { ⌜ now table ≡ filters ⌝ }
+    requires { ⌜ (filter < 4) × (start ≤ 6400000) × (step ≤ 32) × (w ≤ 64) × (h ≤ 64) × (8576 ≤ length (now room)) ⌝ }
+    requires { ⌜ holds h stride w (length (now out)) ≡ true ⌝ }
+    requires { ⌜ HeldRoom max (now room) ((start % 16 + step * (h - 1)) / 16 + 8) w ⌝ }
+    ensures { λ _. ⌜ now (out .exit) ≡ paint (now (out .entry)) stride w h (downAt max (tap filter) (now (room .entry)) start step) ⌝ }
+{
+    if step == 16 {
+        let p = taps_at(table, filter, start % 16);
+        pass_down_even(p, room, w, h, max, out, stride);
+        return;
+    }
+    pass_down_stepped(table, filter, room, start, step, w, h, max, out, stride)
 }
 
 // The vertical pass, averaged into the output.
@@ -113,6 +309,19 @@ fn pass_down_mean(
     }
 }
 
+// The first h rows of the room, averaged into the output.
+fn rows_averaged(room: &[u16], w: usize, h: usize, out: &mut [u16], stride: usize)
+    requires { ⌜ (w ≤ 64) × (h ≤ 64) × (8576 ≤ length (now room)) × (w ≤ stride) ⌝ }
+    requires { ⌜ holds h stride w (length (now out)) ≡ true ⌝ }
+    ensures { λ _. ⌜ now (out .exit) ≡ paint (now (out .entry)) stride w h (meanWith (now (out .entry)) stride (roomAt (now (room .entry)))) ⌝ }
+{
+    let mut r = 0;
+    while r < h {
+        row_averaged(room, r * 64, w, out, r * stride);
+        r += 1;
+    }
+}
+
 // A block from one reference. Whole rows in steps of 16 need no vertical pass.
 pub(crate) fn block<'a>(
     upper: &'a [u16],
@@ -140,12 +349,8 @@ pub(crate) fn block<'a>(
     ensures { λ _. ⌜ now (out .exit) ≡ paint (now (out .entry)) ostride w h
         (blockAt max (tap filter) (view pw ph stride k (now (upper .entry)) (now (lower .entry))) sx stepx sy stepy) ⌝ }
 {
-    let table = subpel_filters();
-    let p = taps_at(&table, filter, sx % 16);
     if (sy % 16 == 0) & (stepy == 16) {
-        pass_across(
-            &table,
-            p,
+        pass_rows(
             upper,
             lower,
             pw,
@@ -156,6 +361,7 @@ pub(crate) fn block<'a>(
             stepx,
             sy / 16 + 3,
             h,
+            filter,
             w,
             max,
             out,
@@ -164,9 +370,7 @@ pub(crate) fn block<'a>(
         return;
     }
     let n = (sy % 16 + stepy * (h - 1)) / 16 + 8;
-    pass_across(
-        &table,
-        p,
+    pass_rows(
         upper,
         lower,
         pw,
@@ -177,11 +381,13 @@ pub(crate) fn block<'a>(
         stepx,
         sy / 16,
         n,
+        filter,
         w,
         max,
         room,
         64,
     );
+    let table = subpel_filters();
     pass_down(&table, filter, room, sy, stepy, w, h, max, out, ostride)
 }
 
@@ -213,12 +419,29 @@ pub(crate) fn block_mean<'a>(
         (meanWith (now (out .entry)) ostride
         (blockAt max (tap filter) (view pw ph stride k (now (upper .entry)) (now (lower .entry))) sx stepx sy stepy)) ⌝ }
 {
-    let table = subpel_filters();
-    let p = taps_at(&table, filter, sx % 16);
+    if (sy % 16 == 0) & (stepy == 16) {
+        pass_rows(
+            upper,
+            lower,
+            pw,
+            ph,
+            stride,
+            k,
+            sx,
+            stepx,
+            sy / 16 + 3,
+            h,
+            filter,
+            w,
+            max,
+            room,
+            64,
+        );
+        rows_averaged(room, w, h, out, ostride);
+        return;
+    }
     let n = (sy % 16 + stepy * (h - 1)) / 16 + 8;
-    pass_across(
-        &table,
-        p,
+    pass_rows(
         upper,
         lower,
         pw,
@@ -229,10 +452,12 @@ pub(crate) fn block_mean<'a>(
         stepx,
         sy / 16,
         n,
+        filter,
         w,
         max,
         room,
         64,
     );
+    let table = subpel_filters();
     pass_down_mean(&table, filter, room, sy, stepy, w, h, max, out, ostride)
 }

@@ -1,115 +1,47 @@
--- `samples::block_inter_pred::refusal` meets its contract: a row of the table for each test. Assumes nothing.
-use mathlib.Core.Bool.{_&&_}
+-- `samples::block_inter_pred::refusal` meets its contract: the lower number of the two references. Assumes nothing.
+use mathlib.Core.Path.{_∙_}
 use borrow.Author.Needs.{needs}
-use Rattle.base.specs.Answer.{unless}
-use Rattle.base.specs.Number.{within}
-use Rattle.base.proofs.Tests.{and-both, within-both}
-use Rattle.samples.specs.Plane.{lent, sized, fits}
-use Rattle.samples.specs.Call.{kind, starts, also, outFits, numberOf}
-use Rattle.samples.proofs.Accepted.{table-same}
+use Rattle.base.proofs.Lift.{Start}
+use Rattle.samples.specs.Plane.{lent}
+use Rattle.samples.specs.Call.{Call, ref, call}
+use Rattle.samples.proofs.Accepted.{number-alone, number-both}
 use Rattle.samples.proofs.block_inter_pred.refusal.Statement.{statement}
 use Rattle.samples.proofs.block_inter_pred.refusal.Tie as tie
 
-within-requires : tie.Need-within-requires
-within-requires c κs = search needs
+abbrev entry : tie.After-refusal-one → tie.Start
+entry c = let m = c .before .before in m .before .before .before
 
-within-requires-2 : tie.Need-within-requires-2
-within-requires-2 c κs = search needs
+abbrev asked : tie.Start → Call
+asked s =
+    let a = s .args in
+    call (a .shape) (ref (lent (a .geom) (a .upper .now) (a .lower .now)) (a .from))
+    (ref (lent (a .geom2) (a .upper2 .now) (a .lower2 .now)) (a .from2)) (a .stride)
 
-sized-requires : tie.Need-sized-requires
-sized-requires c κs = search needs
+refusal-one-requires : tie.Need-refusal-one-requires
+refusal-one-requires c κs = search needs
 
-sized-also-requires : tie.Need-sized-also-requires
-sized-also-requires c κs = search needs
+refusal-one-requires-2 : tie.Need-refusal-one-requires-2
+refusal-one-requires-2 c κs = search needs
 
-starts-requires : tie.Need-starts-requires
-starts-requires c κs = search needs
-
-starts-also-requires : tie.Need-starts-also-requires
-starts-also-requires c κs = search needs
-
-fits-requires : tie.Need-fits-requires
-fits-requires c κs = search needs
-
-fits-also-requires : tie.Need-fits-also-requires
-fits-also-requires c κs = search needs
-
-out-fits-requires : tie.Need-out-fits-requires
-out-fits-requires c κs = search needs
-
-kind-requires : tie.Need-kind-requires
-kind-requires c κs = search needs
-
-unless-requires : tie.Need-unless-requires
-unless-requires c κs = search needs
-
-unless-requires-2 : tie.Need-unless-requires-2
-unless-requires-2 c κs = search needs
-
-unless-requires-3 : tie.Need-unless-requires-3
-unless-requires-3 c κs = search needs
-
-unless-requires-4 : tie.Need-unless-requires-4
-unless-requires-4 c κs = search needs
-
-unless-requires-5 : tie.Need-unless-requires-5
-unless-requires-5 c κs = search needs
+lowest-requires : tie.Need-lowest-requires
+lowest-requires c κs = search needs
 
 returns : tie.Need-returns
-unfolding numberOf outFits
 returns c =
-    let u2 = c .before .before .before in
-    let u1 = u2 .before in
-    let k = u1 .before in
-    let o = k .before in
-    let fa = o .before in
-    let f = fa .before in
-    let sa = f .before in
-    let s = sa .before in
-    let za = s .before in
-    let z = za .before in
-    let w2 = z .before in
-    let w1 = w2 .before in
-    let e = w1 .before .before .before in
-    let a = e .before .before .args in
-    let one = fits (lent (a .geom) (a .upper .now) (a .lower .now)) in
-    let two = also (a .shape .average) (fits (lent (a .geom2) (a .upper2 .now) (a .lower2 .now))) in
-    rw (
-      c .unless5 .ensures,
-      c .before .unless4 .ensures,
-      c .before .before .unless3 .ensures,
-      u2 .unless2 .ensures,
-      u1 .unless .ensures,
-      k .kind .ensures,
-      fa .fits-also .ensures,
-      f .fits2 .ensures,
-      sa .starts-also .ensures,
-      s .starts .ensures,
-      za .sized-also .ensures,
-      z .sized .ensures,
-      w2 .within2 .ensures,
-      w1 .within .ensures,
-    )
-    (table-same (within 1 64 (a .shape .w) && within 1 64 (a .shape .h)) _ _ _ (one && two) _ _
-    (λ t. o .out-fits .ensures (within-both 1 64 (a .shape .h) (and-both (within 1 64 (a .shape .w)) (within 1 64 (a .shape .h)) t .1) .1)))
+    let two = c .before in
+    let t = two .before in
+    let one = t .before in
+    let s = entry one in
+    rw (one .refusal-one .ensures, two .refusal-one2 .ensures) at (c .lowest .ensures)
+    ∙ number-both (asked s) (s .args .n) (s .args .m) (t .if1 .taken)
+
+returns-2 : tie.Need-returns-2
+returns-2 c =
+    let one = c .before in
+    let s = entry one in
+    one .refusal-one .ensures ∙ number-alone (asked s) (s .args .n) (s .args .m) (c .if1 .left)
 
 pub refusal-spec : {M : Type 1} → statement M
 refusal-spec =
     tie.close
-    (tie.spec
-    within-requires
-    within-requires-2
-    sized-requires
-    sized-also-requires
-    starts-requires
-    starts-also-requires
-    fits-requires
-    fits-also-requires
-    out-fits-requires
-    kind-requires
-    unless-requires
-    unless-requires-2
-    unless-requires-3
-    unless-requires-4
-    unless-requires-5
-    returns)
+    (tie.spec refusal-one-requires refusal-one-requires-2 lowest-requires returns returns-2)

@@ -17,8 +17,8 @@ use Rattle.samples.proofs.Blocks.{whole-rows, both-passes, room-held}
 use Rattle.samples.proofs.passes.block.Statement.{statement}
 use Rattle.samples.proofs.passes.block.Tie as tie
 
-abbrev entry : tie.After-taps-at → tie.Start
-entry t = let a = t .before .before .before in let b = a .before .before .before in b .before
+abbrev entry : tie.After-slice-known2 → tie.Start
+entry c = c .before .before .before .before
 
 far : (s : tie.Start) → s .args .stepy * (s .args .h - 1) ≤ 32 * 63
 far s = mul-le-mul {n₂ = 32} {m₂ = 63} (omega (arith, s .pre .0)) (omega (arith, s .pre .0))
@@ -26,32 +26,13 @@ far s = mul-le-mul {n₂ = 32} {m₂ = 63} (omega (arith, s .pre .0)) (omega (ar
 abbrev plane : tie.Start → Lent
 plane s = let a = s .args in view (a .pw) (a .ph) (a .stride) (a .k) (a .upper .now) (a .lower .now)
 
-subpel-filters-requires : tie.Need-subpel-filters-requires
-subpel-filters-requires c κs = search needs
+add-pass-rows : tie.Need-add-pass-rows
+add-pass-rows c = search needs
 
-taps-at-requires : tie.Need-taps-at-requires
-taps-at-requires c κs =
-    let a = c .before .before .before in
-    let s = a .before .before .before in
-    (c .before .subpel-filters .ensures, omega (arith, s .pre .0))
-
-add-pass-across : tie.Need-add-pass-across
-add-pass-across c = search needs
-
-pass-across-requires : tie.Need-pass-across-requires
-pass-across-requires c κs =
-    let t = c .before .before .before in
-    let s = entry t in
-    let e = t .taps-at .ensures in (
-      t .before .before .subpel-filters .ensures,
-      (
-        e .0,
-        (
-          omega (arith, e .1, e .2, s .pre .0),
-          (omega (arith, s .pre .0, s .pre .1 .0, far s), (s .pre .1 .1 .0, s .pre .1 .1 .1)),
-        ),
-      ),
-    )
+pass-rows-requires : tie.Need-pass-rows-requires
+pass-rows-requires c κs =
+    let s = entry (c .before .before) in
+    (omega (arith, s .pre .0, s .pre .1 .0), (s .pre .1 .1 .0, s .pre .1 .1 .1))
 
 same-length : tie.Need-same-length
 same-length c = search needs
@@ -59,16 +40,14 @@ same-length c = search needs
 returns : tie.Need-returns
 returns c =
     let r = c .before .before in
-    let d = r .before .before .before in
-    let t = d .before in
-    let s = entry t in
+    let d = r .before .before in
+    let s = entry (d .before) in
     let a = s .args in
-    let e = t .taps-at .ensures in
     let b = and-both _ _ (d .if1 .taken) in
     let z : a .sy % 16 ≡ 0 = eqb-true _ _ (b .0) in
     let q : a .stepy ≡ 16 = eqb-true _ _ (b .1) in
     rw q
-    (rw (e .1) at (r .pass-across .ensures)
+    (r .pass-rows .ensures
     ∙ paint-same _ _ _ _ _ _ (λ i k ih kw. whole-rows (a .max) (a .filter) (plane s) (a .sx) (a .stepx) (a .sy) i k (s .pre .0 .0) z))
 
 sub-n : tie.Need-sub-n
@@ -83,38 +62,28 @@ add-n c = let s = entry (c .before) in omega (arith, far s)
 add-n-2 : tie.Need-add-n-2
 add-n-2 c = let s = entry (c .before) in omega (arith, far s)
 
-pass-across-requires-2 : tie.Need-pass-across-requires-2
-pass-across-requires-2 c κs =
-    let t = c .before .before .before in
-    let s = entry t in
-    let e = t .taps-at .ensures in (
-      t .before .before .subpel-filters .ensures,
-      (
-        e .0,
-        (
-          omega (arith, e .1, e .2, s .pre .0),
-          (
-            omega (arith, s .pre .0, s .pre .1 .0, far s),
-            (s .pre .1 .1 .0, holds-long _ _ _ _ (omega (arith, s .pre .0, s .pre .1 .0, far s))),
-          ),
-        ),
-      ),
+pass-rows-requires-2 : tie.Need-pass-rows-requires-2
+pass-rows-requires-2 c κs =
+    let s = entry (c .before .before) in (
+      omega (arith, s .pre .0, s .pre .1 .0, far s),
+      (s .pre .1 .1 .0, holds-long _ _ _ _ (omega (arith, s .pre .0, s .pre .1 .0, far s))),
     )
+
+subpel-filters-requires : tie.Need-subpel-filters-requires
+subpel-filters-requires c κs = search needs
 
 pass-down-requires : tie.Need-pass-down-requires
 pass-down-requires c κs =
-    let x1 = c .before .before .before in
-    let x = x1 .before .before in
-    let t1 = x .before .before .before in
-    let t = t1 .before in
-    let s = entry t in
-    let long = ap length (x .pass-across2 .ensures) ∙ length-paint _ _ _ _ _ in
+    let f = c .before .before .before in
+    let x = f .before .before .before in
+    let s = entry (x .before .before .before) in
+    let long = ap length (x .pass-rows2 .ensures) ∙ length-paint _ _ _ _ _ in
     let a = s .args in
     let n = (a .sy % 16 + a .stepy * (a .h - 1)) / 16 + 8 in
-    let held = room-held (a .max) (tap (t .taps-at .result .filter)) (plane s) (a .sx) (a .stepx) (a .sy / 16) (a .w) n (a .room .now)
+    let held = room-held (a .max) (tap (a .filter)) (plane s) (a .sx) (a .stepx) (a .sy / 16) (a .w) n (a .room .now)
     (omega (arith, s .pre .0)) (omega (arith, s .pre .0, s .pre .1 .0, far s)) in (
-      t .before .before .subpel-filters .ensures,
-      (omega (arith, s .pre .0, s .pre .1 .0, long), (s .pre .1 .1 .1, rw (x .pass-across2 .ensures) held)),
+      f .subpel-filters .ensures,
+      (omega (arith, s .pre .0, s .pre .1 .0, long), (s .pre .1 .1 .1, rw (x .pass-rows2 .ensures) held)),
     )
 
 same-length-2 : tie.Need-same-length-2
@@ -126,14 +95,12 @@ same-length-3 c = search needs
 returns-2 : tie.Need-returns-2
 returns-2 c =
     let d = c .before .before in
-    let x1 = d .before .before .before in
-    let x = x1 .before .before .before in
-    let t1 = x .before .before .before in
-    let t = t1 .before in
-    let s = entry t in
+    let f = d .before .before .before in
+    let x1 = f .before .before in
+    let x = x1 .before .before in
+    let s = entry (x .before .before .before) in
     let a = s .args in
-    let e = t .taps-at .ensures in
-    rw (x .pass-across2 .ensures, e .1) at (d .pass-down .ensures)
+    rw (x .pass-rows2 .ensures) at (d .pass-down .ensures)
     ∙ paint-same _ _ _ _ _ _
     (both-passes (a .max) (tap (a .filter)) (plane s) (a .sx) (a .stepx) (a .sy) (a .stepy) (a .w) (a .h) (a .room .now)
     (omega (arith, s .pre .0)) (s .pre .1 .0 .2) (omega (arith, s .pre .0, far s)))
@@ -142,17 +109,16 @@ pub block-spec : {M : Type 1} → statement M
 block-spec =
     tie.close
     (tie.spec
-    subpel-filters-requires
-    taps-at-requires
-    add-pass-across
-    pass-across-requires
+    add-pass-rows
+    pass-rows-requires
     same-length
     returns
     sub-n
     mul-n
     add-n
     add-n-2
-    pass-across-requires-2
+    pass-rows-requires-2
+    subpel-filters-requires
     pass-down-requires
     same-length-2
     same-length-3

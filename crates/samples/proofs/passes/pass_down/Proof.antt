@@ -1,107 +1,59 @@
--- `samples::passes::pass_down` meets its contract. The loop keeps up that the first r rows are painted. Assumes nothing.
-use mathlib.Core.Path.{_≡_}
-use Prim.Native.Nat.{_+_, _-_, _*_, _≤_}
-use native.Mathlib.Nat.{mul-le-mul}
+-- `samples::passes::pass_down` meets its contract: in steps of 16 the phase is one for all rows. Assumes nothing.
+use mathlib.Core.Path.{_≡_, _∙_}
 use native.Mathlib.Omega.{arith}
 use borrow.Author.Needs.{needs}
-use lib.ListN.{length}
 use Rattle.base.proofs.Lift.{Start}
+use Rattle.base.proofs.Painted.{paint-same}
 use Rattle.kernels.specs.Taps.{tap}
-use Rattle.samples.specs.Lifted.{downAt}
-use Rattle.samples.proofs.Blocks.{below-row}
-use Rattle.samples.proofs.Bands.{holds-row}
-use Rattle.kernels.proofs.Loops.{Painting, paint-none, paint-turn}
+use Rattle.samples.proofs.Blocks.{held-even, down-even}
 use Rattle.samples.proofs.passes.pass_down.Statement.{statement}
 use Rattle.samples.proofs.passes.pass_down.Tie as tie
 
-abbrev Inv-loop : tie.InvT-loop
-Inv-loop table filter room start step w h max out₀ stride r₀ out r = (r ≤ h) × Painting out₀ stride w r (downAt max (tap filter) room start step) out
+abbrev entry : tie.Then1 → tie.Start
+entry c = c .before .before .before
 
-abbrev μ-loop : tie.MeasureT-loop
-μ-loop table filter room start step w h max out₀ stride r₀ out r = h - r
+-- the step of the first branch
+even : (c : tie.Then1) → entry c .args .step ≡ 16
+even c = omega arith
 
-abbrev start : tie.In-loop Inv-loop μ-loop → tie.Start Inv-loop μ-loop
-start c = let l = c .before .before in l .before .before
+taps-at-requires : tie.Need-taps-at-requires
+taps-at-requires c κs = let s = entry c in (s .pre .0, omega (arith, s .pre .1 .0))
 
-far : (c : tie.In-loop Inv-loop μ-loop) → start c .args .step * c .before .loop .r ≤ 32 * 63
-far c = mul-le-mul {n₂ = 32} {m₂ = 63} (omega arith) (omega arith)
-
--- row r is inside the output
-in-out : (c : tie.In-loop Inv-loop μ-loop) → let l = c .before .before in let m = l .before .before in let a = m .args in
-    c .before .loop .r * a .stride + a .w ≤ length (a .out .now)
-in-out c = let a = start c .args in holds-row (a .h) (a .stride) (a .w) (length (a .out .now)) (c .before .loop .r) (start c .pre .1 .1 .0) (omega arith)
-
-loop-holds : tie.Need-loop-holds Inv-loop μ-loop
-loop-holds c = (omega arith, paint-none _ _ _ _)
-
-mul-q : tie.Need-mul-q Inv-loop μ-loop
-mul-q c = omega (arith, far c)
-
-add-q : tie.Need-add-q Inv-loop μ-loop
-add-q c = omega (arith, far c)
-
-sub-b : tie.Need-sub-b Inv-loop μ-loop
-sub-b c = omega (arith, far c)
-
-taps-at-requires : tie.Need-taps-at-requires Inv-loop μ-loop
-taps-at-requires c κs = search needs
-
-mul-row-down : tie.Need-mul-row-down Inv-loop μ-loop
-mul-row-down c = omega (arith, far (c .before))
-
-mul-row-down-2 : tie.Need-mul-row-down-2 Inv-loop μ-loop
-mul-row-down-2 c = omega (arith, in-out (c .before .before))
-
-row-down-requires : tie.Need-row-down-requires Inv-loop μ-loop
-row-down-requires c κs =
-    let i = c .before .before in
-    let t = c .before .taps-at .ensures in
-    let a = start i .args in
-    let r = i .before .loop .r in
-    let held = below-row (a .max) (a .room .now) (a .w) (a .start) (a .step) r (a .h) (start i .pre .1 .1 .1) (omega arith) in
-    (t .0, (omega (arith, t .1, t .2, far i, in-out i, start i .pre .1 .0), held))
-
-add-r : tie.Need-add-r Inv-loop μ-loop
-add-r c = omega arith
-
-loop-less : tie.Need-loop-less Inv-loop μ-loop
-loop-less c = omega arith
-
-loop-again : tie.Need-loop-again Inv-loop μ-loop
-unfolding downAt
-loop-again c =
-    let e = c .before .before in
-    let t = e .before .before in
+pass-down-even-requires : tie.Need-pass-down-even-requires
+pass-down-even-requires c κs =
+    let t = c .before in
     let i = t .before in
-    let l = i .before .loop in
-    let a = start i .args in
-    let taps = t .taps-at .ensures in (
-      omega arith,
-      paint-turn (l .inv .1) (rw (taps .1, taps .2) at (e .row-down .ensures)),
-    )
+    let s = entry i in
+    let a = s .args in
+    let e = t .taps-at .ensures in
+    let held = held-even (a .max) (a .room .now) (a .start) (a .step) (a .h) (a .w) (even i) (s .pre .1 .1 .1) in
+    (e .0, (omega (arith, e .1, e .2, s .pre .1 .0), (s .pre .1 .1 .0, held)))
 
-same-length : tie.Need-same-length Inv-loop μ-loop
-same-length c = c .before .loop .inv .1 .long
+same-length : tie.Need-same-length
+same-length c = search needs
 
-returns : tie.Need-returns Inv-loop μ-loop
-returns c = let l = c .before in let m = l .before .before .before in let e : l .loop .r ≡ m .args .h = omega arith in rw e at (l .loop .inv .1 .is)
+returns : tie.Need-returns
+returns c =
+    let r = c .before .before in
+    let t = r .before .before in
+    let i = t .before in
+    let s = entry i in
+    let a = s .args in
+    let e = t .taps-at .ensures in
+    rw (even i)
+    (rw (e .1, e .2) at (r .pass-down-even .ensures)
+    ∙ paint-same _ _ _ _ _ _ (λ k j kh jw. down-even (a .max) (tap (a .filter)) (a .room .now) (a .start) k j))
+
+pass-down-stepped-requires : tie.Need-pass-down-stepped-requires
+pass-down-stepped-requires c κs = search needs
+
+same-length-2 : tie.Need-same-length-2
+same-length-2 c = search needs
+
+returns-2 : tie.Need-returns-2
+returns-2 c = search needs
 
 pub pass-down-spec : {M : Type 1} → statement M
 pass-down-spec =
     tie.close
-    (tie.spec
-    Inv-loop
-    μ-loop
-    loop-holds
-    mul-q
-    add-q
-    sub-b
-    taps-at-requires
-    mul-row-down
-    mul-row-down-2
-    row-down-requires
-    add-r
-    loop-less
-    loop-again
-    same-length
-    returns)
+    (tie.spec taps-at-requires pass-down-even-requires same-length returns pass-down-stepped-requires same-length-2 returns-2)

@@ -1,0 +1,115 @@
+-- Rows of copies are the horizontal pass at whole columns in steps of 16: a row of the plane, rows of one band, and the band's length.
+-- Assumes nothing.
+use mathlib.Core.Path.{_≡_, sym, ap}
+use mathlib.Core.Bool.{true, false}
+use Prim.Native.Nat.{ℕ, _+_, _-_, _*_, _/_, _%_, _<_, _≤_, min}
+use native.Mathlib.Nat.{zero-add, add-mul, min-le-right}
+use native.Mathlib.Omega.{arith}
+use borrow.Author.Tests.{leb-true, lt-ltb, le-ltb}
+use lib.Dec.{ltb}
+use lib.ListN.{length}
+use Rattle.base.proofs.Tests.{and-both}
+use Rattle.kernels.specs.Taps.{tap}
+use Rattle.kernels.specs.Kernel.{clipped, heldFrom, level, seat}
+use Rattle.kernels.specs.Copy.{Rows, clippedRows, still}
+use Rattle.kernels.proofs.Filtered.{filtered-whole}
+use Rattle.samples.specs.Plane.{Lent, plane, rowOf, widthOf, heightOf, holds, fits}
+use Rattle.samples.specs.Lifted.{acrossFrom, copyFrom, inside}
+use Rattle.samples.proofs.Bands.{row-at, holds-row, fits-says}
+
+-- a row of the plane as a list
+pub row-still : (max : ℕ) (p : Lent) (v b c : ℕ) → 0 < widthOf (p .geom)
+    → still max (rowOf p v) (widthOf (p .geom) - 1) b c ≡ min (plane p v (min (b + c - 200003) (widthOf (p .geom) - 1))) max
+unfolding still heldFrom
+row-still max p v b c wide =
+    ap (λ (x : ℕ). min x max) (row-at p v _ (below _ _ wide (min-le-right (b + c - 200003) (widthOf (p .geom) - 1))))
+  where
+    below : (w y : ℕ) → 0 < w → y ≤ w - 1 → y < w
+    below w y h k = omega arith
+
+-- phase 0 in steps of 16
+pub across-copy : (max filter : ℕ) (p : Lent) (start y0 i c : ℕ) → filter < 4 → start % 16 ≡ 0
+    → copyFrom max p (start / 16 + 3) y0 i c ≡ acrossFrom max (tap filter) p start 16 y0 i c
+unfolding acrossFrom copyFrom level seat
+across-copy max filter p start y0 i c f4 z =
+    let phase : (start + 16 * c) % 16 ≡ 0 = omega arith in
+    let column : start / 16 + 3 + c ≡ (start + 16 * c) / 16 + 3 = omega arith in
+    rw (phase, column) (sym (filtered-whole max filter _ f4))
+
+pub inside-says : (b n m : ℕ) → inside b n m ≡ true → (200003 ≤ b) × (b - 200003 + n ≤ m)
+unfolding inside
+inside-says b n m e = let t = and-both _ _ e in (leb-true _ _ (t .0), leb-true _ _ (t .1))
+
+at-inside : (b n m c : ℕ) → 200003 ≤ b → b - 200003 + n ≤ m → c < n → min (b + c - 200003) (m - 1) ≡ b - 200003 + c
+at-inside b n m c h k cn = omega arith
+
+-- the places of a row of a band
+place-is : (e d stride i c : ℕ) → (e + i) * stride + (d + c) ≡ e * stride + d + i * stride + c
+place-is e d stride i c = omega (arith, add-mul e i stride)
+
+end-is : (e d stride i w W len : ℕ) → (e + i) * stride + W ≤ len → d + w ≤ W → e * stride + d + i * stride + w ≤ len
+end-is e d stride i w W len h k = omega (arith, add-mul e i stride)
+
+row-of : (e n k i : ℕ) → e + n ≤ k → i < n → e + i < k
+row-of e n k i h ni = omega arith
+
+row-below : (e n k m i : ℕ) → k ≤ e → e + n ≤ m → i < n → e - k + i < m - k
+row-below e n k m i h f ni = omega arith
+
+less-add : (e k i : ℕ) → k ≤ e → e + i - k ≡ e - k + i
+less-add e k i h = omega arith
+
+not-before : (e k i : ℕ) → k ≤ e → ltb (e + i) k ≡ false
+not-before e k i h = le-ltb (e + i) k (omega arith)
+
+pub out-fits : (n stride w len : ℕ) → holds n stride w len ≡ true → Rows n stride w 0 len
+out-fits n stride w len h = record { ends = λ i ni. rw zero-add (holds-row n stride w len i h ni) }
+
+-- a rectangle inside the plane, in one of its bands
+module _ (max : ℕ) (p : Lent) (b y0 w n : ℕ) (in-x : inside b w (widthOf (p .geom)) ≡ true) (in-y : inside y0 n (heightOf (p .geom)) ≡ true)
+    (fit : fits p ≡ true) where
+  x : (200003 ≤ b) × (b - 200003 + w ≤ widthOf (p .geom))
+  x = inside-says b w (widthOf (p .geom)) in-x
+
+  y : (200003 ≤ y0) × (y0 - 200003 + n ≤ heightOf (p .geom))
+  y = inside-says y0 n (heightOf (p .geom)) in-y
+
+  pub upper-fits : y0 - 200003 + n ≤ p .geom .«upper_rows»
+      → Rows n (p .geom .stride) w ((y0 - 200003) * p .geom .stride + (b - 200003)) (length (p .upper))
+  upper-fits h = record {
+    ends = λ i ni.
+        end-is (y0 - 200003) (b - 200003) (p .geom .stride) i w (widthOf (p .geom)) _
+        (holds-row _ _ _ _ (y0 - 200003 + i) (fits-says p fit .upper) (row-of _ n _ i h ni)) (x .1);
+  }
+
+  pub lower-fits : p .geom .«upper_rows» ≤ y0 - 200003
+      → Rows n (p .geom .stride) w ((y0 - 200003 - p .geom .«upper_rows») * p .geom .stride + (b - 200003)) (length (p .lower))
+  lower-fits h = record {
+    ends = λ i ni.
+        end-is (y0 - 200003 - p .geom .«upper_rows») (b - 200003) (p .geom .stride) i w (widthOf (p .geom)) _
+        (holds-row _ _ _ _ (y0 - 200003 - p .geom .«upper_rows» + i) (fits-says p fit .lower) (row-below _ n _ _ i h (y .1) ni)) (x .1);
+  }
+
+  pub upper-copy : y0 - 200003 + n ≤ p .geom .«upper_rows» → (i c : ℕ) → i < n → c < w
+      → clippedRows max (p .upper) ((y0 - 200003) * p .geom .stride + (b - 200003)) (p .geom .stride) i c ≡ copyFrom max p b y0 i c
+  unfolding clippedRows clipped copyFrom plane
+  upper-copy h i c ni cw =
+      rw (
+        at-inside y0 n (heightOf (p .geom)) i (y .0) (y .1) ni,
+        at-inside b w (widthOf (p .geom)) c (x .0) (x .1) cw,
+        lt-ltb _ _ (row-of _ n _ i h ni),
+        place-is (y0 - 200003) (b - 200003) (p .geom .stride) i c,
+      )
+
+  pub lower-copy : p .geom .«upper_rows» ≤ y0 - 200003 → (i c : ℕ) → i < n → c < w
+      → clippedRows max (p .lower) ((y0 - 200003 - p .geom .«upper_rows») * p .geom .stride + (b - 200003)) (p .geom .stride) i c
+      ≡ copyFrom max p b y0 i c
+  unfolding clippedRows clipped copyFrom plane
+  lower-copy h i c ni cw =
+      rw (
+        at-inside y0 n (heightOf (p .geom)) i (y .0) (y .1) ni,
+        at-inside b w (widthOf (p .geom)) c (x .0) (x .1) cw,
+        not-before _ _ i h,
+        less-add _ _ i h,
+        place-is (y0 - 200003 - p .geom .«upper_rows») (b - 200003) (p .geom .stride) i c,
+      )

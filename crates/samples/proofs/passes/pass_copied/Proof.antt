@@ -1,0 +1,148 @@
+-- `samples::passes::pass_copied` meets its contract: rows of one band where nothing has to be held. Assumes nothing.
+use mathlib.Core.Path.{_≡_, sym, _∙_}
+use mathlib.Core.Bool.{true}
+use Prim.Native.Nat.{ℕ, _-_, _*_, _≤_}
+use native.Mathlib.Nat.{mul-le-mul, le-refl, sub-le}
+use native.Mathlib.Omega.{arith}
+use borrow.Author.Needs.{needs}
+use Rattle.base.proofs.Lift.{Start}
+use Rattle.base.proofs.Painted.{paint-same}
+use Rattle.base.proofs.Tests.{and-both}
+use Rattle.samples.specs.Plane.{Lent}
+use Rattle.samples.specs.Lifted.{view, inside}
+use Rattle.samples.proofs.Bands.{fits-says}
+use Rattle.samples.proofs.Copied.{inside-says, out-fits, upper-fits, lower-fits, upper-copy, lower-copy}
+use Rattle.samples.proofs.passes.pass_copied.Statement.{statement}
+use Rattle.samples.proofs.passes.pass_copied.Tie as tie
+
+abbrev entry : tie.Then1 → tie.Start
+entry c = let m = c .before .before .before in m .before .before .before
+
+abbrev plane : tie.Start → Lent
+plane s = let a = s .args in view (a .pw) (a .ph) (a .stride) (a .k) (a .upper .now) (a .lower .now)
+
+-- both tests of the first branch
+in-x : (c : tie.Then1) → let a = entry c .args in inside (a .b) (a .w) (a .pw) ≡ true
+in-x c = let m = c .before in let l = m .before in sym (l .inside .ensures) ∙ and-both (l .inside .result) (m .inside2 .result) (c .if1 .taken) .0
+
+in-y : (c : tie.Then1) → let a = entry c .args in inside (a .y0) (a .n) (a .ph) ≡ true
+in-y c = let m = c .before in let l = m .before in sym (m .inside2 .ensures) ∙ and-both (l .inside .result) (m .inside2 .result) (c .if1 .taken) .1
+
+from : (c : tie.Then1) → let a = entry c .args in (200003 ≤ a .b) × (200003 ≤ a .y0)
+from c = let a = entry c .args in (inside-says (a .b) (a .w) (a .pw) (in-x c) .0, inside-says (a .y0) (a .n) (a .ph) (in-y c) .0)
+
+-- no product of a row and the stride is large
+near : (c : tie.Then1) (e : ℕ) → let a = entry c .args in e ≤ a .y0 - 200003 → e * a .stride ≤ 200000 * 131072
+near c e h =
+    let s = entry c in
+    mul-le-mul {n₂ = 200000} {m₂ = 131072} (omega (arith, h, s .pre .0)) (fits-says (plane s) (s .pre .1 .0) .near)
+
+inside-requires : tie.Need-inside-requires
+inside-requires c κs = let m = c .before .before .before in omega (arith, m .pre .0)
+
+inside-requires-2 : tie.Need-inside-requires-2
+inside-requires-2 c κs = let m = c .before .before .before in omega (arith, m .before .pre .0)
+
+sub-d : tie.Need-sub-d
+sub-d c = from c .0
+
+sub-e : tie.Need-sub-e
+sub-e c = from c .1
+
+add-if2 : tie.Need-add-if2
+add-if2 c = let s = entry c in omega (arith, s .pre .0)
+
+mul-rows-copied : tie.Need-mul-rows-copied
+mul-rows-copied c = let t = c .before in let a = entry t .args in omega (arith, near t (a .y0 - 200003) (le-refl _))
+
+add-rows-copied : tie.Need-add-rows-copied
+add-rows-copied c = let t = c .before in let s = entry t in omega (arith, near t (s .args .y0 - 200003) (le-refl _), s .pre .0)
+
+rows-copied-requires : tie.Need-rows-copied-requires
+rows-copied-requires c κs =
+    let t = c .before .before in
+    let s = entry t in
+    let a = s .args in (
+      upper-fits (a .max) (plane s) (a .b) (a .y0) (a .w) (a .n) (in-x t) (in-y t) (s .pre .1 .0) (c .before .if2 .taken),
+      out-fits _ _ _ _ (s .pre .1 .1),
+    )
+
+same-length : tie.Need-same-length
+same-length c = search needs
+
+returns : tie.Need-returns
+returns c =
+    let r = c .before .before in
+    let i = r .before .before in
+    let t = i .before in
+    let s = entry t in
+    let a = s .args in
+    r .rows-copied .ensures
+    ∙ paint-same _ _ _ _ _ _
+    (upper-copy (a .max) (plane s) (a .b) (a .y0) (a .w) (a .n) (in-x t) (in-y t) (s .pre .1 .0) (i .if2 .taken))
+
+mul-rows-copied-2 : tie.Need-mul-rows-copied-2
+mul-rows-copied-2 c = let t = c .before .before in let a = entry t .args in omega (arith, near t (a .y0 - 200003 - a .k) (sub-le _ _))
+
+add-rows-copied-2 : tie.Need-add-rows-copied-2
+add-rows-copied-2 c =
+    let t = c .before .before in
+    let s = entry t in
+    let a = s .args in
+    omega (arith, near t (a .y0 - 200003 - a .k) (sub-le _ _), s .pre .0)
+
+rows-copied-requires-2 : tie.Need-rows-copied-requires-2
+rows-copied-requires-2 c κs =
+    let i = c .before in
+    let t = i .before .before in
+    let s = entry t in
+    let a = s .args in (
+      lower-fits (a .max) (plane s) (a .b) (a .y0) (a .w) (a .n) (in-x t) (in-y t) (s .pre .1 .0) (i .if3 .taken),
+      out-fits _ _ _ _ (s .pre .1 .1),
+    )
+
+same-length-2 : tie.Need-same-length-2
+same-length-2 c = search needs
+
+returns-2 : tie.Need-returns-2
+returns-2 c =
+    let r = c .before .before in
+    let i = r .before .before in
+    let t = i .before .before in
+    let s = entry t in
+    let a = s .args in
+    r .rows-copied2 .ensures
+    ∙ paint-same _ _ _ _ _ _
+    (lower-copy (a .max) (plane s) (a .b) (a .y0) (a .w) (a .n) (in-x t) (in-y t) (s .pre .1 .0) (i .if3 .taken))
+
+rows-held-requires : tie.Need-rows-held-requires
+rows-held-requires c κs = let m = c .before .before .before .before in m .before .before .before .pre
+
+same-length-3 : tie.Need-same-length-3
+same-length-3 c = search needs
+
+returns-3 : tie.Need-returns-3
+returns-3 c = c .before .before .rows-held .ensures
+
+pub pass-copied-spec : {M : Type 1} → statement M
+pass-copied-spec =
+    tie.close
+    (tie.spec
+    inside-requires
+    inside-requires-2
+    sub-d
+    sub-e
+    add-if2
+    mul-rows-copied
+    add-rows-copied
+    rows-copied-requires
+    same-length
+    returns
+    mul-rows-copied-2
+    add-rows-copied-2
+    rows-copied-requires-2
+    same-length-2
+    returns-2
+    rows-held-requires
+    same-length-3
+    returns-3)

@@ -1,0 +1,79 @@
+-- `samples::passes::pass_rows` meets its contract: whole columns in steps of 16 are copies. Assumes nothing.
+use mathlib.Core.Path.{_≡_, _∙_}
+use Prim.Native.Nat.{_%_}
+use native.Mathlib.Omega.{arith}
+use borrow.Author.Tests.{eqb-true}
+use borrow.Author.Needs.{needs}
+use Rattle.base.proofs.Lift.{Start}
+use Rattle.base.proofs.Painted.{paint-same}
+use Rattle.base.proofs.Tests.{and-both}
+use Rattle.samples.specs.Plane.{Lent}
+use Rattle.samples.specs.Lifted.{view}
+use Rattle.samples.proofs.Copied.{across-copy}
+use Rattle.samples.proofs.passes.pass_rows.Statement.{statement}
+use Rattle.samples.proofs.passes.pass_rows.Tie as tie
+
+abbrev entry : tie.After-slice-known → tie.Start
+entry c = c .before .before .before
+
+abbrev plane : tie.Start → Lent
+plane s = let a = s .args in view (a .pw) (a .ph) (a .stride) (a .k) (a .upper .now) (a .lower .now)
+
+add-pass-copied : tie.Need-add-pass-copied
+add-pass-copied c = let s = entry (c .before) in omega (arith, s .pre .0)
+
+pass-copied-requires : tie.Need-pass-copied-requires
+pass-copied-requires c κs = let s = entry (c .before .before) in (omega (arith, s .pre .0), s .pre .1)
+
+same-length : tie.Need-same-length
+same-length c = search needs
+
+returns : tie.Need-returns
+returns c =
+    let r = c .before .before in
+    let d = r .before .before in
+    let s = entry (d .before) in
+    let a = s .args in
+    let b = and-both _ _ (d .if1 .taken) in
+    let z : a .start % 16 ≡ 0 = eqb-true _ _ (b .0) in
+    let q : a .step ≡ 16 = eqb-true _ _ (b .1) in
+    rw q
+    (r .pass-copied .ensures
+    ∙ paint-same _ _ _ _ _ _ (λ i k ih kw. across-copy (a .max) (a .filter) (plane s) (a .start) (a .y0) i k (s .pre .0 .0) z))
+
+subpel-filters-requires : tie.Need-subpel-filters-requires
+subpel-filters-requires c κs = search needs
+
+taps-at-requires : tie.Need-taps-at-requires
+taps-at-requires c κs = let s = entry (c .before .before .before) in (c .before .subpel-filters .ensures, omega (arith, s .pre .0))
+
+pass-across-requires : tie.Need-pass-across-requires
+pass-across-requires c κs =
+    let t = c .before .before in
+    let f = t .before .before in
+    let s = entry (f .before .before) in
+    let e = t .taps-at .ensures in
+    (f .subpel-filters .ensures, (e .0, (omega (arith, e .1, e .2, s .pre .0), (omega (arith, s .pre .0), s .pre .1))))
+
+same-length-2 : tie.Need-same-length-2
+same-length-2 c = search needs
+
+returns-2 : tie.Need-returns-2
+returns-2 c =
+    let r = c .before .before in
+    let t = r .before .before .before in
+    rw (t .taps-at .ensures .1) at (r .pass-across .ensures)
+
+pub pass-rows-spec : {M : Type 1} → statement M
+pass-rows-spec =
+    tie.close
+    (tie.spec
+    add-pass-copied
+    pass-copied-requires
+    same-length
+    returns
+    subpel-filters-requires
+    taps-at-requires
+    pass-across-requires
+    same-length-2
+    returns-2)
