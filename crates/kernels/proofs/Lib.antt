@@ -3,4 +3,5 @@ pub mod Filtered
 pub mod Lines
 pub mod Loops
 pub mod Low
+pub mod Runs
 pub mod TapRules

@@ -69,6 +69,14 @@ levels max taps row last start step c = level max taps (listed row) last (start 
 unfoldable pub heldFrom : List ℕ → ℕ → ℕ → ℕ → ℕ
 heldFrom row last b j = getD row (min (b + j - 200003) last) 0
 
+-- one number at every place
+unfoldable pub alike : ℕ → ℕ → ℕ
+alike v c = v
+
+-- the samples from place s on
+unfoldable pub onward : List ℕ → ℕ → ℕ → ℕ
+onward row s c = getD row (s + c) 0
+
 -- the rounded means of what stands in the output from place at on and of f
 unfoldable pub meanOf : List ℕ → ℕ → (ℕ → ℕ) → ℕ → ℕ
 meanOf out at f c = (getD out (at + c) 0 + f c + 1) / 2
