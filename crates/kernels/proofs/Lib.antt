@@ -5,3 +5,4 @@ pub mod Loops
 pub mod Low
 pub mod Runs
 pub mod TapRules
+pub mod Tops

@@ -1,13 +1,14 @@
--- Runs written one after the other are one, and the three runs of a gathered line are the held samples. Assumes nothing.
+-- Runs written one after the other are one, so are eight writes, and the three runs of a gathered line are the held samples. Assumes nothing.
 use mathlib.Core.Path.{_≡_, refl, sym, ap, _∙_}
 use mathlib.Core.List.{List}
 use Prim.Native.Nat.{ℕ, zero, suc, _+_, _-_, _<_, _≤_, min}
 use native.Mathlib.Nat.{add-zero, zero-add, add-suc, min-le-right}
 use native.Mathlib.Omega.{arith}
-use lib.ListN.{getD, set}
+use lib.ListN.{length, getD, set}
 use Rattle.base.specs.Paint.{fill}
-use Rattle.base.proofs.Painted.{fill-same}
+use Rattle.base.proofs.Painted.{length-fill, fill-same}
 use Rattle.kernels.specs.Kernel.{alike, onward, heldFrom}
+use Rattle.kernels.proofs.Loops.{Filling}
 
 -- two runs, the second where the first ends
 pub fill-join : (l : List ℕ) (at n k : ℕ) (f g h : ℕ → ℕ) → ((c : ℕ) → c < n → f c ≡ h c) → ((c : ℕ) → c < k → g c ≡ h (n + c))
@@ -20,6 +21,22 @@ fill-join l at n (suc k) f g h e q =
     ∙ ap (λ (v : ℕ). set (fill l at (n + k) h) (at + n + k) v) (q k (omega arith))
     ∙ ap (λ (j : ℕ). set (fill l at (n + k) h) j (h (n + k))) place
     ∙ sym (ap (λ (j : ℕ). fill l at j h) (add-suc n k))
+
+-- eight writes in a row
+pub eight-written : (l : List ℕ) (at : ℕ) (f : ℕ → ℕ)
+    → set (set (set (set (set (set (set (set l at (f 0)) (at + 1) (f 1)) (at + 2) (f 2)) (at + 3) (f 3)) (at + 4) (f 4)) (at + 5) (f 5)) (at + 6) (f 6))
+    (at + 7) (f 7)
+    ≡ fill l at 8 f
+unfolding fill
+eight-written l at f = rw add-zero refl
+
+-- a buffer filled so far, and eight numbers more
+pub fill-eight : {l : List ℕ} {at n : ℕ} {f g : ℕ → ℕ} {now next : List ℕ} → Filling l at n f now → next ≡ fill now (at + n) 8 g
+    → ((k : ℕ) → k < 8 → g k ≡ f (n + k)) → Filling l at (n + 8) f next
+fill-eight {l} {at} {n} {f} {g} {now} {next} s e same = record {
+  is = e ∙ ap (λ (x : List ℕ). fill x (at + n) 8 g) (s .is) ∙ fill-join l at n 8 f g f (λ c h. refl) same;
+  long = ap length e ∙ length-fill now (at + n) 8 g ∙ s .long;
+}
 
 -- where the runs of a gathered line end, each fact by itself, since omega splits few cases
 left-fits : (b m l : ℕ) → l ≡ min (200003 - b) m → l ≤ m

@@ -1,10 +1,13 @@
 // The rows that block prediction is made of: the filters' taps, and rows of results over lists of samples. Only `samples` calls it.
 mod down;
+mod lanes;
 mod rows;
 mod taps;
 
 pub use down::row_down;
 pub use down::row_down_mean;
+pub use lanes::rows_across;
+pub use lanes::rows_down;
 pub use rows::held;
 pub use rows::row_across;
 pub use taps::Taps;

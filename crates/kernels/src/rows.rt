@@ -6,6 +6,7 @@ ghost use Rattle.base.specs.Paint.{fill};
 ghost use Rattle.kernels.specs.Taps.{filters, tap};
 ghost use Rattle.kernels.specs.Filter.{filtered};
 ghost use Rattle.kernels.specs.Kernel.{IsTaps, products, raisedOne, apart, ran, stepped, clipped, alike, onward, heldFrom, levels};
+use crate::lanes::rows_across;
 use crate::taps::Taps;
 use crate::taps::taps_at;
 
@@ -22,7 +23,7 @@ fn mul(t: u16, x: u16) -> u32
     (t as u32) * (x as u32)
 }
 
-pub(crate) fn dot(p: Taps, a: u16, b: u16, c: u16, d: u16, e: u16, f: u16, g: u16, h: u16) -> u32
+fn dot(p: Taps, a: u16, b: u16, c: u16, d: u16, e: u16, f: u16, g: u16, h: u16) -> u32
     requires { ⌜ IsTaps p ⌝ }
     ensures { λ r. ⌜ (r ≡ products p a b c d e f g h) × (r ≤ 79690560) ⌝ }
 {
@@ -37,7 +38,7 @@ pub(crate) fn dot(p: Taps, a: u16, b: u16, c: u16, d: u16, e: u16, f: u16, g: u1
 }
 
 // What the 24 on each tap added to the sum.
-pub(crate) fn surplus(a: u16, b: u16, c: u16, d: u16, e: u16, f: u16, g: u16, h: u16) -> u32
+fn surplus(a: u16, b: u16, c: u16, d: u16, e: u16, f: u16, g: u16, h: u16) -> u32
     ensures { λ r. ⌜ r ≡ 24 * (a + b + c + d + e + f + g + h) ⌝ }
 {
     24 * (wide(a) + wide(b) + wide(c) + wide(d) + wide(e) + wide(f) + wide(g) + wide(h))
@@ -177,7 +178,7 @@ pub fn held(b: usize, last: usize) -> usize
     if d < last { d } else { last }
 }
 
-fn fewer(a: usize, b: usize) -> usize
+pub(crate) fn fewer(a: usize, b: usize) -> usize
     ensures { λ r. ⌜ r ≡ min a b ⌝ }
 {
     if a < b { a } else { b }
@@ -257,7 +258,7 @@ fn row_line(
         row_clipped(l, d + 3, w, max, out, at);
         return;
     }
-    row_filtered(l, 1, d, p, w, max, out, at)
+    rows_across(l, d, 0, p, w, max, 1, out, at, 0)
 }
 
 // A row of results near an edge, over a line of held samples.

@@ -22,7 +22,7 @@ returns c =
     let s = s1 .before .before .before in
     let a = s .args in
     r .row-low-narrow .ensures
-    ∙ fill-same _ _ _ _ _ (λ k kw. low-ran (a .p) (a .room .now) (a .b) k (s .pre .0) (s .pre .1 .0 .0) (s .pre .1 .0 .1) (λ t t8. s .pre .1 .1 .le k t kw t8))
+    ∙ fill-same _ _ _ _ _ (λ k kw. low-ran (a .p) (a .room .now) 64 (a .b) k (s .pre .0) (s .pre .1 .0 .0) (s .pre .1 .0 .1) (λ t t8. s .pre .1 .1 .le k t kw t8))
 
 row-low-requires : tie.Need-row-low-requires
 row-low-requires c κs = search needs
@@ -37,7 +37,7 @@ returns-2 c =
     let s = s1 .before .before in
     let a = s .args in
     r .row-low .ensures
-    ∙ fill-same _ _ _ _ _ (λ k kw. low-ran (a .p) (a .room .now) (a .b) k (s .pre .0) (s .pre .1 .0 .0) (s .pre .1 .0 .1) (λ t t8. s .pre .1 .1 .le k t kw t8))
+    ∙ fill-same _ _ _ _ _ (λ k kw. low-ran (a .p) (a .room .now) 64 (a .b) k (s .pre .0) (s .pre .1 .0 .0) (s .pre .1 .0 .1) (λ t t8. s .pre .1 .1 .le k t kw t8))
 
 pub row-down-low-spec : {M : Type 1} → statement M
 row-down-low-spec =

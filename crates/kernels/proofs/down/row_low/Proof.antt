@@ -9,7 +9,7 @@ use Rattle.kernels.proofs.down.row_low.Statement.{statement}
 use Rattle.kernels.proofs.down.row_low.Tie as tie
 
 abbrev Inv-loop : tie.InvT-loop
-Inv-loop l b p w out₀ at c₀ out c = (c ≤ w) × Filling out₀ at c (lowRan p l b) out
+Inv-loop l b p w out₀ at c₀ out c = (c ≤ w) × Filling out₀ at c (lowRan p l 64 b) out
 
 abbrev μ-loop : tie.MeasureT-loop
 μ-loop l b p w out₀ at c₀ out c = w - c
@@ -23,8 +23,8 @@ add-o c = omega arith
 add-s : tie.Need-add-s Inv-loop μ-loop
 add-s c = omega arith
 
-window-low-requires : tie.Need-window-low-requires Inv-loop μ-loop
-window-low-requires c κs = search needs
+window-down-requires : tie.Need-window-down-requires Inv-loop μ-loop
+window-down-requires c κs = search needs
 
 mul-out : tie.Need-mul-out Inv-loop μ-loop
 mul-out c = omega arith
@@ -43,7 +43,7 @@ unfolding lowRan
 loop-again c =
     let l = c .before .before .loop in (
       omega arith,
-      fill-turn _ (l .inv .1) (c .window-low .ensures),
+      fill-turn _ (l .inv .1) (c .window-down .ensures),
     )
 
 same-length : tie.Need-same-length Inv-loop μ-loop
@@ -61,7 +61,7 @@ row-low-spec =
     loop-holds
     add-o
     add-s
-    window-low-requires
+    window-down-requires
     mul-out
     slice-write-out
     add-c

@@ -36,8 +36,8 @@ returns c =
     rw (g .row-low .ensures) at (r .row-clipped .ensures)
     ∙ fill-same _ _ _ _ _
     (λ k kw.
-    ap (λ (v : ℕ). min v 255) (fill-at _ 0 16 (lowRan (a .p) (a .l .now) (a .b)) (omega arith) k (omega (arith, s .pre .1)))
-    ∙ low-max (a .p) (a .l .now) (a .b) k)
+    ap (λ (v : ℕ). min v 255) (fill-at _ 0 16 (lowRan (a .p) (a .l .now) 64 (a .b)) (omega arith) k (omega (arith, s .pre .1)))
+    ∙ low-max (a .p) (a .l .now) 64 (a .b) k)
 
 pub row-low-narrow-spec : {M : Type 1} → statement M
 row-low-narrow-spec =
