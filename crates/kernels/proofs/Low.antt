@@ -4,7 +4,7 @@ use mathlib.Core.Path.{_≡_, refl, sym, ap, subst, _∙_}
 use mathlib.Core.Bool.{Bool, true, false, _&&_, cond}
 use mathlib.Core.List.{List, []}
 use Prim.Native.Nat.{ℕ, suc, _+_, _-_, _*_, _/_, _%_, _<_, _≤_, min}
-use native.Mathlib.Nat.{add-mul, add-zero, mul-zero, mul-one, mul-le-mul-left, min-le-right, min-eq-left}
+use native.Mathlib.Nat.{add-mul, add-zero, mul-zero, zero-mul, mul-one, mul-le-mul-left}
 use native.Mathlib.Omega.{arith}
 use borrow.Author.Tests.{eqb-true, leb-true, ltb-true, ltb-false}
 use lib.Dec.{eqb, leb, ltb}
@@ -15,7 +15,7 @@ use Rattle.base.proofs.Table.{every, entry}
 use Rattle.base.proofs.Tests.{and-left, and-right, and-both}
 use Rattle.kernels.specs.Taps.{regular, smooth, sharp, bilinear, filters, tap}
 use Rattle.kernels.specs.Filter.{filtered}
-use Rattle.kernels.specs.Kernel.{Raised, IsTaps, products, raisedOne, BelowRows, UpToRows, lowTap, lowSum, lowOne, lowRan, lowRows, apart, ran, ranRows, fillRows}
+use Rattle.kernels.specs.Kernel.{Raised, IsTaps, products, raisedOne, Below, BelowRows, UpToRows, lowTap, lowSum, lowOne, lowRan, lowRows, apart, ran, ranRows, fillRows}
 use Rattle.kernels.specs.declared.taps.Taps.{Taps}
 use Rattle.kernels.proofs.Filtered.{one-is}
 use Rattle.kernels.proofs.Loops.{rows-same}
@@ -145,10 +145,6 @@ pub low-ran : (p : Taps) (l : List ℕ) (n b c : ℕ) → IsTaps p → p .filter
 unfolding lowRan ran apart
 low-ran p l n b c r f4 p16 low = rw (mul-zero, add-zero, mul-one) at (low-is p (apart l n (b + c)) r f4 p16 low)
 
-pub low-max : (p : Taps) (l : List ℕ) (n b c : ℕ) → min (lowRan p l n b c) 255 ≡ lowRan p l n b c
-unfolding lowRan lowOne
-low-max p l n b c = min-eq-left (min-le-right _ _)
-
 -- rows of horizontal results over samples of at most 255
 pub across-low : (p : Taps) (l out : List ℕ) (b line w h at stride : ℕ) → IsTaps p → p .filter < 4 → p .phase < 16 → UpToRows 255 l b line (w + 7) h
     → fillRows out at stride w h (lowRows p l 1 b line) ≡ fillRows out at stride w h (ranRows 255 (tap (p .filter) (p .phase)) l 1 b line)
@@ -160,6 +156,9 @@ across-low p l out b line w h at stride r f4 p16 low =
     (λ t t8.
     let e : b + i * line + (c + t) ≡ b + i * line + c + 1 * t = omega arith in
     subst (λ (k : ℕ). getD l k 0 ≤ 255) e (low .le i ih .le (c + t) (omega arith))))
+
+pub one-below : {max : ℕ} {l : List ℕ} {b w : ℕ} → Below max l b w → BelowRows max l b w 1
+one-below below = record { le = λ r r1. let e : r ≡ 0 = omega arith in rw (e, zero-mul, add-zero) below }
 
 -- and of vertical results
 pub down-low : (p : Taps) (l out : List ℕ) (b w h at stride : ℕ) → IsTaps p → p .filter < 4 → p .phase < 16 → BelowRows 255 l b w h

@@ -78,6 +78,10 @@ alike v c = v
 unfoldable pub onward : List ℕ → ℕ → ℕ → ℕ
 onward row s c = getD row (s + c) 0
 
+-- a list as rows of eight
+unfoldable pub eighths : List ℕ → ℕ → ℕ → ℕ
+eighths l r = onward l (r * 8)
+
 -- the rounded means of what stands in the output from place at on and of f
 unfoldable pub meanOf : List ℕ → ℕ → (ℕ → ℕ) → ℕ → ℕ
 meanOf out at f c = (getD out (at + c) 0 + f c + 1) / 2

@@ -4,52 +4,10 @@ ghost use Prim.Native.Nat.{_+_, _/_, _≤_, _<_};
 ghost use lib.ListN.{length};
 ghost use Rattle.base.specs.Paint.{fill};
 ghost use Rattle.kernels.specs.Taps.{tap};
-ghost use Rattle.kernels.specs.Kernel.{IsTaps, Below, lowRan, ran, listed, meanOf};
-use crate::lanes::window_down;
+ghost use Rattle.kernels.specs.Kernel.{IsTaps, Below, ran, listed, meanOf};
+use crate::lanes::rows_down;
 use crate::rows::row_clipped;
-use crate::rows::row_filtered;
 use crate::taps::Taps;
-
-// A row of results of 8 bits: sixteen-bit sums, of which the machine does eight at once.
-fn row_low(l: &[u16], b: usize, p: Taps, w: usize, out: &mut [u16], at: usize)
-    requires { ⌜ IsTaps p ⌝ }
-    requires { ⌜ (b + w + 448 ≤ length (now l)) × (at + w ≤ length (now out)) ⌝ }
-    ensures { λ _. ⌜ now (out .exit) ≡ fill (now (out .entry)) at w (lowRan p (now (l .entry)) 64 b) ⌝ }
-{
-    let mut c = 0;
-    while c < w {
-        let o = at + c;
-        let s = b + c;
-        out[o] = window_down(l, s, p);
-        c += 1;
-    }
-}
-
-// A narrow row by way of one of sixteen: what is computed past its end is dropped.
-fn row_low_narrow(l: &[u16], b: usize, p: Taps, w: usize, out: &mut [u16], at: usize)
-    requires { ⌜ IsTaps p ⌝ }
-    requires { ⌜ (w ≤ 16) × (b + 464 ≤ length (now l)) × (at + w ≤ length (now out)) ⌝ }
-    ensures { λ _. ⌜ now (out .exit) ≡ fill (now (out .entry)) at w (lowRan p (now (l .entry)) 64 b) ⌝ }
-{
-    let mut line = [0u16; 16];
-    row_low(l, b, p, 16, &mut line, 0);
-    row_clipped(&line, 0, w, 255, out, at)
-}
-
-fn row_down_low(p: Taps, room: &[u16], b: usize, w: usize, out: &mut [u16], at: usize)
-    requires { ⌜ IsTaps p ⌝ }
-    requires { ⌜ (p .filter < 4) × (p .phase < 16) × (b + w + 448 ≤ length (now room)) × (at + w ≤ length (now out)) ⌝ }
-    requires { ⌜ Below 255 (now room) b w ⌝ }
-    ensures { λ _. ⌜ now (out .exit) ≡ fill (now (out .entry)) at w (ran 255 (tap (p .filter) (p .phase)) (now (room .entry)) 64 b) ⌝ }
-{
-    if w < 16 {
-        if 464 <= room.len() - b {
-            row_low_narrow(room, b, p, w, out, at);
-            return;
-        }
-    }
-    row_low(room, b, p, w, out, at)
-}
 
 // A row of vertical results: phase 0 is the fourth of its eight rows.
 pub fn row_down(p: Taps, room: &[u16], b: usize, w: usize, max: u16, out: &mut [u16], at: usize)
@@ -62,11 +20,7 @@ pub fn row_down(p: Taps, room: &[u16], b: usize, w: usize, max: u16, out: &mut [
         row_clipped(room, b + 192, w, max, out, at);
         return;
     }
-    if max == 255 {
-        row_down_low(p, room, b, w, out, at);
-        return;
-    }
-    row_filtered(room, 64, b, p, w, max, out, at)
+    rows_down(room, b, p, w, max, 1, out, at, 0)
 }
 
 fn mean(a: u16, b: u16) -> u16

@@ -5,10 +5,11 @@ ghost use Prim.Native.Nat.{_+_, _-_, _*_, _/_, _%_, _≤_, _<_, min};
 ghost use lib.ListN.{length, getD};
 ghost use Rattle.base.specs.Paint.{fill};
 ghost use Rattle.kernels.specs.Taps.{tap};
-ghost use Rattle.kernels.specs.Kernel.{IsTaps, BelowRows, UpTo, UpToRows, lowTap, lowSum, lowOne, lowAt, lowRan, lowRows, ranRows, fillRows};
+ghost use Rattle.kernels.specs.Kernel.{IsTaps, eighths, BelowRows, UpTo, UpToRows, lowTap, lowSum, lowOne, lowAt, lowRan, lowRows, ranRows, fillRows};
 use crate::rows::fewer;
 use crate::rows::lesser;
 use crate::rows::row_filtered;
+use crate::rows::run_copied;
 use crate::taps::Taps;
 
 // The 24 taken off again, modulo 65,536.
@@ -61,7 +62,7 @@ fn one_low(p: Taps, a: u16, b: u16, c: u16, d: u16, e: u16, f: u16, g: u16, h: u
     rounded_low(low_sum(p, a, b, c, d, e, f, g, h))
 }
 
-pub(crate) fn window_down(l: &[u16], s: usize, p: Taps) -> u16
+fn window_down(l: &[u16], s: usize, p: Taps) -> u16
     requires { ⌜ IsTaps p ⌝ }
     requires { ⌜ s + 448 < length (now l) ⌝ }
     ensures { λ r. ⌜ r ≡ lowAt p (now (l .entry)) 64 s ⌝ }
@@ -285,6 +286,123 @@ fn rows_filtered(
     }
 }
 
+// The first w of each eight numbers of a list.
+fn rows_first(l: &[u16], w: usize, h: usize, out: &mut [u16], at: usize, stride: usize)
+    requires { ⌜ (w ≤ 8) × (h * 8 ≤ length (now l)) × (at + (h - 1) * stride + w ≤ length (now out)) ⌝ }
+    ensures { λ _. ⌜ now (out .exit) ≡ fillRows (now (out .entry)) at stride w h (eighths (now (l .entry))) ⌝ }
+{
+    let mut i = 0;
+    while i < h {
+        run_copied(l, i * 8, w, out, at + i * stride);
+        i += 1;
+    }
+}
+
+// Narrow rows by way of rows of eight: what is computed past their ends is dropped.
+fn narrow_across(
+    l: &[u16],
+    b: usize,
+    line: usize,
+    p: Taps,
+    w: usize,
+    h: usize,
+    out: &mut [u16],
+    at: usize,
+    stride: usize,
+)
+    requires { ⌜ IsTaps p ⌝ }
+    requires { ⌜ (w ≤ 8) × (h ≤ 16) × (b + (h - 1) * line + 15 ≤ length (now l)) × (at + (h - 1) * stride + w ≤ length (now out)) ⌝ }
+    ensures { λ _. ⌜ now (out .exit) ≡ fillRows (now (out .entry)) at stride w h (lowRows p (now (l .entry)) 1 b line) ⌝ }
+{
+    let mut wide = [0u16; 128];
+    rows_low_across(l, b, line, p, 8, h, &mut wide, 0, 8);
+    rows_first(&wide, w, h, out, at, stride)
+}
+
+fn narrow_down(
+    l: &[u16],
+    b: usize,
+    line: usize,
+    p: Taps,
+    w: usize,
+    h: usize,
+    out: &mut [u16],
+    at: usize,
+    stride: usize,
+)
+    requires { ⌜ IsTaps p ⌝ }
+    requires { ⌜ (w ≤ 8) × (h ≤ 16) × (b + (h - 1) * line + 456 ≤ length (now l)) × (at + (h - 1) * stride + w ≤ length (now out)) ⌝ }
+    ensures { λ _. ⌜ now (out .exit) ≡ fillRows (now (out .entry)) at stride w h (lowRows p (now (l .entry)) 64 b line) ⌝ }
+{
+    let mut wide = [0u16; 128];
+    rows_low_down(l, b, line, p, 8, h, &mut wide, 0, 8);
+    rows_first(&wide, w, h, out, at, stride)
+}
+
+// Rows of horizontal results over samples of at most 255.
+fn bytes_across(
+    l: &[u16],
+    b: usize,
+    line: usize,
+    p: Taps,
+    w: usize,
+    h: usize,
+    out: &mut [u16],
+    at: usize,
+    stride: usize,
+)
+    requires { ⌜ IsTaps p ⌝ }
+    requires { ⌜ (p .filter < 4) × (p .phase < 16) × (0 < h) ⌝ }
+    requires { ⌜ (b + (h - 1) * line + w + 7 ≤ length (now l)) × (at + (h - 1) * stride + w ≤ length (now out)) ⌝ }
+    requires { ⌜ UpToRows 255 (now l) b line (w + 7) h ⌝ }
+    ensures { λ _. ⌜ now (out .exit) ≡ fillRows (now (out .entry)) at stride w h (ranRows 255 (tap (p .filter) (p .phase)) (now (l .entry)) 1 b line) ⌝ }
+{
+    if w % 8 == 0 {
+        rows_low_across(l, b, line, p, w, h, out, at, stride);
+        return;
+    }
+    if w < 8 {
+        if h <= 16 {
+            if 15 <= l.len() - (b + (h - 1) * line) {
+                narrow_across(l, b, line, p, w, h, out, at, stride);
+                return;
+            }
+        }
+    }
+    rows_filtered(l, 1, b, line, p, w, 255, h, out, at, stride)
+}
+
+fn bytes_down(
+    l: &[u16],
+    b: usize,
+    p: Taps,
+    w: usize,
+    h: usize,
+    out: &mut [u16],
+    at: usize,
+    stride: usize,
+)
+    requires { ⌜ IsTaps p ⌝ }
+    requires { ⌜ (p .filter < 4) × (p .phase < 16) × (0 < h) ⌝ }
+    requires { ⌜ (b + (h - 1) * 64 + w + 448 ≤ length (now l)) × (at + (h - 1) * stride + w ≤ length (now out)) ⌝ }
+    requires { ⌜ BelowRows 255 (now l) b w h ⌝ }
+    ensures { λ _. ⌜ now (out .exit) ≡ fillRows (now (out .entry)) at stride w h (ranRows 255 (tap (p .filter) (p .phase)) (now (l .entry)) 64 b 64) ⌝ }
+{
+    if w % 8 == 0 {
+        rows_low_down(l, b, 64, p, w, h, out, at, stride);
+        return;
+    }
+    if w < 8 {
+        if h <= 16 {
+            if 456 <= l.len() - (b + (h - 1) * 64) {
+                narrow_down(l, b, 64, p, w, h, out, at, stride);
+                return;
+            }
+        }
+    }
+    rows_filtered(l, 64, b, 64, p, w, 255, h, out, at, stride)
+}
+
 // Rows of horizontal results of one phase, taken from h rows that stand line apart, where no column has to be held.
 pub fn rows_across(
     l: &[u16],
@@ -299,13 +417,13 @@ pub fn rows_across(
     stride: usize,
 )
     requires { ⌜ IsTaps p ⌝ }
-    requires { ⌜ (p .filter < 4) × (p .phase < 16) × (0 < w) ⌝ }
+    requires { ⌜ (p .filter < 4) × (p .phase < 16) × (0 < w) × (0 < h) ⌝ }
     requires { ⌜ (b + (h - 1) * line + w + 7 ≤ length (now l)) × (at + (h - 1) * stride + w ≤ length (now out)) ⌝ }
     ensures { λ _. ⌜ now (out .exit) ≡ fillRows (now (out .entry)) at stride w h (ranRows max (tap (p .filter) (p .phase)) (now (l .entry)) 1 b line) ⌝ }
 {
-    if (max == 255) & (w % 8 == 0) {
+    if max == 255 {
         if rows_are_low(l, b, line, w + 7, h) {
-            rows_low_across(l, b, line, p, w, h, out, at, stride);
+            bytes_across(l, b, line, p, w, h, out, at, stride);
             return;
         }
     }
@@ -325,13 +443,13 @@ pub fn rows_down(
     stride: usize,
 )
     requires { ⌜ IsTaps p ⌝ }
-    requires { ⌜ (p .filter < 4) × (p .phase < 16) ⌝ }
+    requires { ⌜ (p .filter < 4) × (p .phase < 16) × (0 < h) ⌝ }
     requires { ⌜ (b + (h - 1) * 64 + w + 448 ≤ length (now l)) × (at + (h - 1) * stride + w ≤ length (now out)) ⌝ }
     requires { ⌜ BelowRows max (now l) b w h ⌝ }
     ensures { λ _. ⌜ now (out .exit) ≡ fillRows (now (out .entry)) at stride w h (ranRows max (tap (p .filter) (p .phase)) (now (l .entry)) 64 b 64) ⌝ }
 {
-    if (max == 255) & (w % 8 == 0) {
-        rows_low_down(l, b, 64, p, w, h, out, at, stride);
+    if max == 255 {
+        bytes_down(l, b, p, w, h, out, at, stride);
         return;
     }
     rows_filtered(l, 64, b, 64, p, w, max, h, out, at, stride)

@@ -206,7 +206,7 @@ fn run_same(v: u16, n: usize, line: &mut [u16], at: usize)
     }
 }
 
-fn run_copied(row: &[u16], s: usize, n: usize, line: &mut [u16], at: usize)
+pub(crate) fn run_copied(row: &[u16], s: usize, n: usize, line: &mut [u16], at: usize)
     requires { ⌜ (s + n ≤ length (now row)) × (at + n ≤ length (now line)) ⌝ }
     ensures { λ _. ⌜ now (line .exit) ≡ fill (now (line .entry)) at n (onward (now (row .entry)) s) ⌝ }
 {
