@@ -1,16 +1,16 @@
 -- A row of results, however it is computed, is the definition's on lifted positions: one phase, phase 0, and over a line of held samples.
 -- Assumes nothing.
-use mathlib.Core.Path.{_≡_, sym, ap, _∙_}
+use mathlib.Core.Path.{_≡_, refl, sym, ap, _∙_}
 use mathlib.Core.List.{List}
 use Prim.Native.Nat.{ℕ, _+_, _-_, _*_, _/_, _%_, _<_, _≤_, min}
-use native.Mathlib.Nat.{mul-le-mul-left, zero-add}
+use native.Mathlib.Nat.{mul-le-mul-left, zero-add, zero-mul, add-zero}
 use native.Mathlib.Omega.{arith}
 use lib.IntN.{ℤ}
 use lib.ListN.{length, getD}
 use Rattle.base.specs.Paint.{fill}
 use Rattle.base.proofs.Painted.{fill-same, fill-at}
 use Rattle.kernels.specs.Taps.{tap}
-use Rattle.kernels.specs.Kernel.{apart, ran, stepped, clipped, seat, level, levels, heldFrom, listed, meanOf}
+use Rattle.kernels.specs.Kernel.{apart, ran, ranRows, stepped, clipped, seat, level, levels, heldFrom, listed, meanOf}
 use Rattle.kernels.proofs.Filtered.{filtered-same, filtered-whole}
 
 -- one phase, in steps of 16
@@ -20,6 +20,11 @@ ran-stepped max taps l d phase c p16 =
     let e : (phase + 16 * c) % 16 ≡ phase = omega arith in
     let f : (phase + 16 * c) / 16 ≡ c = omega arith in
     rw (e, f)
+
+-- the first of several rows
+pub first-row : (max : ℕ) (f : ℕ → ℤ) (l : List ℕ) (n b line c : ℕ) → ranRows max f l n b line 0 c ≡ ran max f l n b c
+unfolding ranRows
+first-row max f l n b line c = rw (zero-mul, add-zero) refl
 
 -- phase 0, in steps of 16
 pub clipped-stepped : (max filter : ℕ) (l : List ℕ) (d c : ℕ) → filter < 4 → clipped max l (d + 3) c ≡ stepped max (tap filter) l d 0 16 c

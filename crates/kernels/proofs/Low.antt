@@ -1,12 +1,12 @@
 -- Eight samples that are at most 255: their sum modulo 65,536 loses nothing, since no row's taps add up to more than 182 above zero or 54
 -- below it. Assumes nothing.
-use mathlib.Core.Path.{_≡_, refl, sym, ap, _∙_}
+use mathlib.Core.Path.{_≡_, refl, sym, ap, subst, _∙_}
 use mathlib.Core.Bool.{Bool, true, false, _&&_, cond}
 use mathlib.Core.List.{List, []}
 use Prim.Native.Nat.{ℕ, suc, _+_, _-_, _*_, _/_, _%_, _<_, _≤_, min}
-use native.Mathlib.Nat.{add-mul, add-zero, mul-zero, mul-le-mul-left, min-le-right, min-eq-left}
+use native.Mathlib.Nat.{add-mul, add-zero, mul-zero, zero-mul, mul-one, mul-le-mul-left}
 use native.Mathlib.Omega.{arith}
-use borrow.Author.Tests.{eqb-true, leb-true, ltb-false}
+use borrow.Author.Tests.{eqb-true, leb-true, ltb-true, ltb-false}
 use lib.Dec.{eqb, leb, ltb}
 use lib.IntN.{ℤ, pos, negsuc, pos-ne-negsuc}
 use lib.ListN.{length, getD}
@@ -15,9 +15,10 @@ use Rattle.base.proofs.Table.{every, entry}
 use Rattle.base.proofs.Tests.{and-left, and-right, and-both}
 use Rattle.kernels.specs.Taps.{regular, smooth, sharp, bilinear, filters, tap}
 use Rattle.kernels.specs.Filter.{filtered}
-use Rattle.kernels.specs.Kernel.{Raised, IsTaps, products, raisedOne, lowOne, lowRan, apart, ran}
+use Rattle.kernels.specs.Kernel.{Raised, IsTaps, products, raisedOne, Below, BelowRows, UpToRows, lowTap, lowSum, lowOne, lowRan, lowRows, apart, ran, ranRows, fillRows}
 use Rattle.kernels.specs.declared.taps.Taps.{Taps}
 use Rattle.kernels.proofs.Filtered.{one-is}
+use Rattle.kernels.proofs.Loops.{rows-same}
 
 -- ---- the rule of the table
 
@@ -69,13 +70,46 @@ bounds p (negsuc n) x r h =
 
 -- ---- the sum
 
-whole : (s n : ℕ) → s ≤ n + 46410 → n ≤ s + 13770 → n ≤ 12582720 → (s + 13123648 - n) % 65536 - 16384 ≡ s + 64 - n
-whole s n hi lo small = omega arith
+-- v is s less n, modulo 65,536
+record Turned (v s n : ℕ) : Type 0 where
+  pub turns : ℕ
+  pub is : v + n ≡ s + 65536 * turns
 
-pub low-is : (p : Taps) (x : ℕ → ℕ) → IsTaps p → p .filter < 4 → p .phase < 16 → ((t : ℕ) → t < 8 → x t ≤ 255)
-    → lowOne p (x 0) (x 1) (x 2) (x 3) (x 4) (x 5) (x 6) (x 7) ≡ filtered 255 (tap (p .filter) (p .phase)) x
-unfolding lowOne raisedOne
-low-is p x r f4 p16 low =
+-- a lowered tap times a sample
+wound : (t x : ℕ) (b : Bool) → ltb t 24 ≡ b → t ≤ 152 → Turned (lowTap t * x) (t * x) (24 * x)
+wound t x true e le =
+    let l = ltb-true t 24 e in
+    let q : lowTap t ≡ t + 65512 = omega arith in
+    let m : lowTap t * x ≡ t * x + 65512 * x = ap (λ (k : ℕ). k * x) q ∙ add-mul t 65512 x in
+    record { turns = x; is = omega (arith, m) }
+wound t x false e le =
+    let l = ltb-false t 24 e in
+    let q : t ≡ lowTap t + 24 = omega arith in
+    let m : t * x ≡ lowTap t * x + 24 * x = ap (λ (k : ℕ). k * x) q ∙ add-mul (lowTap t) 24 x in
+    record { turns = 0; is = omega (arith, m) }
+
+whole : (v s n k : ℕ) → v + n ≡ s + 65536 * k → s ≤ n + 46410 → n ≤ s + 13770 → (v + 16448) % 65536 - 16384 ≡ s + 64 - n
+whole v s n k e hi lo = omega arith
+
+-- eight of them
+turned : (p : Taps) (x : ℕ → ℕ) → IsTaps p → Turned (lowSum p (x 0) (x 1) (x 2) (x 3) (x 4) (x 5) (x 6) (x 7)) (products p (x 0) (x 1) (x 2) (x 3) (x 4) (x 5) (x 6) (x 7)) (24 * (x 0 + x 1 + x 2 + x 3 + x 4 + x 5 + x 6 + x 7))
+turned p x r =
+    let w0 = wound (p .t0) (x 0) (ltb (p .t0) 24) refl (r .t0 .le) in
+    let w1 = wound (p .t1) (x 1) (ltb (p .t1) 24) refl (r .t1 .le) in
+    let w2 = wound (p .t2) (x 2) (ltb (p .t2) 24) refl (r .t2 .le) in
+    let w3 = wound (p .t3) (x 3) (ltb (p .t3) 24) refl (r .t3 .le) in
+    let w4 = wound (p .t4) (x 4) (ltb (p .t4) 24) refl (r .t4 .le) in
+    let w5 = wound (p .t5) (x 5) (ltb (p .t5) 24) refl (r .t5 .le) in
+    let w6 = wound (p .t6) (x 6) (ltb (p .t6) 24) refl (r .t6 .le) in
+    let w7 = wound (p .t7) (x 7) (ltb (p .t7) 24) refl (r .t7 .le) in
+    record {
+      turns = w0 .turns + w1 .turns + w2 .turns + w3 .turns + w4 .turns + w5 .turns + w6 .turns + w7 .turns;
+      is = omega (arith, w0 .is, w1 .is, w2 .is, w3 .is, w4 .is, w5 .is, w6 .is, w7 .is);
+    }
+
+ranged : (p : Taps) (x : ℕ → ℕ) → IsTaps p → p .filter < 4 → p .phase < 16 → ((t : ℕ) → t < 8 → x t ≤ 255)
+    → (products p (x 0) (x 1) (x 2) (x 3) (x 4) (x 5) (x 6) (x 7) ≤ 24 * (x 0 + x 1 + x 2 + x 3 + x 4 + x 5 + x 6 + x 7) + 46410) × (24 * (x 0 + x 1 + x 2 + x 3 + x 4 + x 5 + x 6 + x 7) ≤ products p (x 0) (x 1) (x 2) (x 3) (x 4) (x 5) (x 6) (x 7) + 13770)
+ranged p x r f4 p16 low =
     let rule = tame (p .filter) (p .phase) f4 p16 in
     let l0 = low 0 (omega arith) in
     let l1 = low 1 (omega arith) in
@@ -93,18 +127,42 @@ low-is p x r f4 p16 low =
     let b5 = bounds (p .t5) _ (x 5) (r .t5) l5 in
     let b6 = bounds (p .t6) _ (x 6) (r .t6) l6 in
     let b7 = bounds (p .t7) _ (x 7) (r .t7) l7 in
-    let s = products p (x 0) (x 1) (x 2) (x 3) (x 4) (x 5) (x 6) (x 7) in
-    let n = 24 * (x 0 + x 1 + x 2 + x 3 + x 4 + x 5 + x 6 + x 7) in
-    ap (λ (k : ℕ). min (k / 128) 255) (whole s n (omega arith) (omega arith) (omega arith))
+    (omega arith, omega arith)
+
+pub low-is : (p : Taps) (x : ℕ → ℕ) → IsTaps p → p .filter < 4 → p .phase < 16 → ((t : ℕ) → t < 8 → x t ≤ 255)
+    → lowOne p (x 0) (x 1) (x 2) (x 3) (x 4) (x 5) (x 6) (x 7) ≡ filtered 255 (tap (p .filter) (p .phase)) x
+unfolding lowOne raisedOne
+low-is p x r f4 p16 low =
+    let t = turned p x r in
+    let g = ranged p x r f4 p16 low in
+    ap (λ (k : ℕ). min (k / 128) 255) (whole _ _ _ (t .turns) (t .is) (g .0) (g .1))
     ∙ one-is 255 p x r
 
 -- ---- a row
 
-pub low-ran : (p : Taps) (l : List ℕ) (b c : ℕ) → IsTaps p → p .filter < 4 → p .phase < 16 → ((t : ℕ) → t < 8 → apart l 64 (b + c) t ≤ 255)
-    → lowRan p l b c ≡ ran 255 (tap (p .filter) (p .phase)) l 64 b c
+pub low-ran : (p : Taps) (l : List ℕ) (n b c : ℕ) → IsTaps p → p .filter < 4 → p .phase < 16 → ((t : ℕ) → t < 8 → apart l n (b + c) t ≤ 255)
+    → lowRan p l n b c ≡ ran 255 (tap (p .filter) (p .phase)) l n b c
 unfolding lowRan ran apart
-low-ran p l b c r f4 p16 low = rw (mul-zero, add-zero) at (low-is p (apart l 64 (b + c)) r f4 p16 low)
+low-ran p l n b c r f4 p16 low = rw (mul-zero, add-zero, mul-one) at (low-is p (apart l n (b + c)) r f4 p16 low)
 
-pub low-max : (p : Taps) (l : List ℕ) (b c : ℕ) → min (lowRan p l b c) 255 ≡ lowRan p l b c
-unfolding lowRan lowOne
-low-max p l b c = min-eq-left (min-le-right _ _)
+-- rows of horizontal results over samples of at most 255
+pub across-low : (p : Taps) (l out : List ℕ) (b line w h at stride : ℕ) → IsTaps p → p .filter < 4 → p .phase < 16 → UpToRows 255 l b line (w + 7) h
+    → fillRows out at stride w h (lowRows p l 1 b line) ≡ fillRows out at stride w h (ranRows 255 (tap (p .filter) (p .phase)) l 1 b line)
+unfolding lowRows ranRows apart
+across-low p l out b line w h at stride r f4 p16 low =
+    rows-same out at stride w h _ _
+    (λ i c ih cw.
+    low-ran p l 1 (b + i * line) c r f4 p16
+    (λ t t8.
+    let e : b + i * line + (c + t) ≡ b + i * line + c + 1 * t = omega arith in
+    subst (λ (k : ℕ). getD l k 0 ≤ 255) e (low .le i ih .le (c + t) (omega arith))))
+
+pub one-below : {max : ℕ} {l : List ℕ} {b w : ℕ} → Below max l b w → BelowRows max l b w 1
+one-below below = record { le = λ r r1. let e : r ≡ 0 = omega arith in rw (e, zero-mul, add-zero) below }
+
+-- and of vertical results
+pub down-low : (p : Taps) (l out : List ℕ) (b w h at stride : ℕ) → IsTaps p → p .filter < 4 → p .phase < 16 → BelowRows 255 l b w h
+    → fillRows out at stride w h (lowRows p l 64 b 64) ≡ fillRows out at stride w h (ranRows 255 (tap (p .filter) (p .phase)) l 64 b 64)
+unfolding lowRows ranRows
+down-low p l out b w h at stride r f4 p16 low =
+    rows-same out at stride w h _ _ (λ i c ih cw. low-ran p l 64 (b + i * 64) c r f4 p16 (λ t t8. low .le i ih .le c t cw t8))

@@ -1,10 +1,11 @@
 -- Internal: what the rows compute, on lists and on positions lifted by 3,200,000, which is 200,000 columns or rows. No definition that a
 -- caller reads cites this file. Assumes nothing.
-use Prim.Native.Nat.{ℕ, _+_, _-_, _*_, _/_, _%_, _≤_, _<_, min}
+use Prim.Native.Nat.{ℕ, zero, suc, _+_, _-_, _*_, _/_, _%_, _≤_, _<_, min}
 use mathlib.Core.Path.{_≡_}
 use mathlib.Core.List.{List}
 use lib.IntN.{ℤ, pos, _+ℤ_}
 use lib.ListN.{getD}
+use Rattle.base.specs.Paint.{fill}
 use Rattle.kernels.specs.Taps.{tap}
 use Rattle.kernels.specs.Filter.{filtered}
 use Rattle.kernels.specs.declared.taps.Taps.{Taps}
@@ -69,25 +70,69 @@ levels max taps row last start step c = level max taps (listed row) last (start 
 unfoldable pub heldFrom : List ℕ → ℕ → ℕ → ℕ → ℕ
 heldFrom row last b j = getD row (min (b + j - 200003) last) 0
 
+-- one number at every place
+unfoldable pub alike : ℕ → ℕ → ℕ
+alike v c = v
+
+-- the samples from place s on
+unfoldable pub onward : List ℕ → ℕ → ℕ → ℕ
+onward row s c = getD row (s + c) 0
+
+-- a list as rows of eight
+unfoldable pub eighths : List ℕ → ℕ → ℕ → ℕ
+eighths l r = onward l (r * 8)
+
 -- the rounded means of what stands in the output from place at on and of f
 unfoldable pub meanOf : List ℕ → ℕ → (ℕ → ℕ) → ℕ → ℕ
 meanOf out at f c = (getD out (at + c) 0 + f c + 1) / 2
 
--- what the code makes of eight samples that are at most 255, by a sum modulo 65,536: 13,123,648 is 64 + 16,384 past a multiple of it
-unfoldable pub lowOne : Taps → ℕ → ℕ → ℕ → ℕ → ℕ → ℕ → ℕ → ℕ → ℕ
-lowOne p a b c d e f g h =
-    min (((products p a b c d e f g h + 13123648 - 24 * (a + b + c + d + e + f + g + h)) % 65536 - 16384) / 128) 255
+-- a tap without its 24 again, modulo 65,536
+abbrev pub lowTap : ℕ → ℕ
+lowTap t = (t + 65512) % 65536
 
--- of the samples of l from place s on, 64 apart
-abbrev pub lowAt : Taps → List ℕ → ℕ → ℕ
-lowAt p l s =
-    lowOne p (getD l s 0) (getD l (s + 64) 0) (getD l (s + 128) 0) (getD l (s + 192) 0) (getD l (s + 256) 0) (getD l (s + 320) 0)
-    (getD l (s + 384) 0) (getD l (s + 448) 0)
+abbrev pub lowSum : Taps → ℕ → ℕ → ℕ → ℕ → ℕ → ℕ → ℕ → ℕ → ℕ
+lowSum p a b c d e f g h =
+    lowTap (p .t0) * a + lowTap (p .t1) * b + lowTap (p .t2) * c + lowTap (p .t3) * d + lowTap (p .t4) * e + lowTap (p .t5) * f
+    + lowTap (p .t6) * g + lowTap (p .t7) * h
+
+-- what the code makes of eight samples that are at most 255, by a sum modulo 65,536 with 64 and 16,384 more
+unfoldable pub lowOne : Taps → ℕ → ℕ → ℕ → ℕ → ℕ → ℕ → ℕ → ℕ → ℕ
+lowOne p a b c d e f g h = min (((lowSum p a b c d e f g h + 16448) % 65536 - 16384) / 128) 255
+
+-- of the samples of l from place s on, n apart
+abbrev pub lowAt : Taps → List ℕ → ℕ → ℕ → ℕ
+lowAt p l n s =
+    lowOne p (getD l s 0) (getD l (s + n) 0) (getD l (s + n * 2) 0) (getD l (s + n * 3) 0) (getD l (s + n * 4) 0) (getD l (s + n * 5) 0)
+    (getD l (s + n * 6) 0) (getD l (s + n * 7) 0)
 
 -- a row of them
-unfoldable pub lowRan : Taps → List ℕ → ℕ → ℕ → ℕ
-lowRan p l b c = lowAt p l (b + c)
+unfoldable pub lowRan : Taps → List ℕ → ℕ → ℕ → ℕ → ℕ
+lowRan p l n b c = lowAt p l n (b + c)
 
 -- of eight rows, 64 apart, the w samples from place b on are at most max
 pub record Below (max : ℕ) (l : List ℕ) (b w : ℕ) : Type 0 where
   pub le : (c t : ℕ) → c < w → t < 8 → apart l 64 (b + c) t ≤ max
+
+-- so they are from h places on, 64 apart
+pub record BelowRows (max : ℕ) (l : List ℕ) (b w h : ℕ) : Type 0 where
+  pub le : (r : ℕ) → r < h → Below max l (b + r * 64) w
+
+-- the m samples from place b on are at most max
+pub record UpTo (max : ℕ) (l : List ℕ) (b m : ℕ) : Type 0 where
+  pub le : (j : ℕ) → j < m → getD l (b + j) 0 ≤ max
+
+-- so are those of h rows, line apart
+pub record UpToRows (max : ℕ) (l : List ℕ) (b line m h : ℕ) : Type 0 where
+  pub le : (r : ℕ) → r < h → UpTo max l (b + r * line) m
+
+-- l with f r c at place at + r x stride + c, for each row r below h and column c below w
+unfoldable pub fillRows : List ℕ → ℕ → ℕ → ℕ → ℕ → (ℕ → ℕ → ℕ) → List ℕ
+fillRows l at stride w zero f = l
+fillRows l at stride w (suc h) f = fill (fillRows l at stride w h f) (at + h * stride) w (f h)
+
+-- rows of results, line apart
+unfoldable pub ranRows : ℕ → (ℕ → ℤ) → List ℕ → ℕ → ℕ → ℕ → ℕ → ℕ → ℕ
+ranRows max f l n b line r = ran max f l n (b + r * line)
+
+unfoldable pub lowRows : Taps → List ℕ → ℕ → ℕ → ℕ → ℕ → ℕ → ℕ
+lowRows p l n b line r = lowRan p l n (b + r * line)

@@ -1,102 +1,13 @@
 // Rows of vertical results, plain and averaged into the output.
 ghost use mathlib.Core.Path.{_≡_};
-ghost use Prim.Native.Nat.{_+_, _-_, _/_, _%_, _≤_, _<_, min};
+ghost use Prim.Native.Nat.{_+_, _/_, _≤_, _<_};
 ghost use lib.ListN.{length};
 ghost use Rattle.base.specs.Paint.{fill};
 ghost use Rattle.kernels.specs.Taps.{tap};
-ghost use Rattle.kernels.specs.Kernel.{IsTaps, Below, lowOne, lowAt, lowRan, ran, listed, meanOf};
-use crate::rows::dot;
-use crate::rows::lesser;
+ghost use Rattle.kernels.specs.Kernel.{IsTaps, Below, ran, listed, meanOf};
+use crate::lanes::rows_down;
 use crate::rows::row_clipped;
-use crate::rows::row_filtered;
-use crate::rows::surplus;
 use crate::taps::Taps;
-
-fn lessened(s: u16, n: u16) -> u16
-    ensures { λ r. ⌜ r ≡ s - n ⌝ }
-{
-    if s < n { 0 } else { s - n }
-}
-
-// Rounded and held to 8 bits, all of it modulo 65,536: nothing is lost, since no sum leaves -16,448..49,087.
-fn rounded_low(s: u32, n: u32) -> u16
-    requires { ⌜ (s ≤ 79690560) × (n ≤ 12582720) ⌝ }
-    ensures { λ r. ⌜ r ≡ min (((s + 13123648 - n) % 65536 - 16384) / 128) 255 ⌝ }
-{
-    lesser(
-        lessened(((s + 13123648 - n) % 65536) as u16, 16384) / 128,
-        255,
-    )
-}
-
-fn one_low(p: Taps, a: u16, b: u16, c: u16, d: u16, e: u16, f: u16, g: u16, h: u16) -> u16
-    requires { ⌜ IsTaps p ⌝ }
-    ensures { λ r. ⌜ r ≡ lowOne p a b c d e f g h ⌝ }
-{
-    rounded_low(
-        dot(p, a, b, c, d, e, f, g, h),
-        surplus(a, b, c, d, e, f, g, h),
-    )
-}
-
-fn window_low(l: &[u16], s: usize, p: Taps) -> u16
-    requires { ⌜ IsTaps p ⌝ }
-    requires { ⌜ s + 448 < length (now l) ⌝ }
-    ensures { λ r. ⌜ r ≡ lowAt p (now (l .entry)) s ⌝ }
-{
-    one_low(
-        p,
-        l[s],
-        l[s + 64],
-        l[s + 128],
-        l[s + 192],
-        l[s + 256],
-        l[s + 320],
-        l[s + 384],
-        l[s + 448],
-    )
-}
-
-// A row of results of 8 bits: sixteen-bit sums, of which the machine does eight at once.
-fn row_low(l: &[u16], b: usize, p: Taps, w: usize, out: &mut [u16], at: usize)
-    requires { ⌜ IsTaps p ⌝ }
-    requires { ⌜ (b + w + 448 ≤ length (now l)) × (at + w ≤ length (now out)) ⌝ }
-    ensures { λ _. ⌜ now (out .exit) ≡ fill (now (out .entry)) at w (lowRan p (now (l .entry)) b) ⌝ }
-{
-    let mut c = 0;
-    while c < w {
-        let o = at + c;
-        let s = b + c;
-        out[o] = window_low(l, s, p);
-        c += 1;
-    }
-}
-
-// A narrow row by way of one of sixteen: what is computed past its end is dropped.
-fn row_low_narrow(l: &[u16], b: usize, p: Taps, w: usize, out: &mut [u16], at: usize)
-    requires { ⌜ IsTaps p ⌝ }
-    requires { ⌜ (w ≤ 16) × (b + 464 ≤ length (now l)) × (at + w ≤ length (now out)) ⌝ }
-    ensures { λ _. ⌜ now (out .exit) ≡ fill (now (out .entry)) at w (lowRan p (now (l .entry)) b) ⌝ }
-{
-    let mut line = [0u16; 16];
-    row_low(l, b, p, 16, &mut line, 0);
-    row_clipped(&line, 0, w, 255, out, at)
-}
-
-fn row_down_low(p: Taps, room: &[u16], b: usize, w: usize, out: &mut [u16], at: usize)
-    requires { ⌜ IsTaps p ⌝ }
-    requires { ⌜ (p .filter < 4) × (p .phase < 16) × (b + w + 448 ≤ length (now room)) × (at + w ≤ length (now out)) ⌝ }
-    requires { ⌜ Below 255 (now room) b w ⌝ }
-    ensures { λ _. ⌜ now (out .exit) ≡ fill (now (out .entry)) at w (ran 255 (tap (p .filter) (p .phase)) (now (room .entry)) 64 b) ⌝ }
-{
-    if w < 16 {
-        if 464 <= room.len() - b {
-            row_low_narrow(room, b, p, w, out, at);
-            return;
-        }
-    }
-    row_low(room, b, p, w, out, at)
-}
 
 // A row of vertical results: phase 0 is the fourth of its eight rows.
 pub fn row_down(p: Taps, room: &[u16], b: usize, w: usize, max: u16, out: &mut [u16], at: usize)
@@ -109,11 +20,7 @@ pub fn row_down(p: Taps, room: &[u16], b: usize, w: usize, max: u16, out: &mut [
         row_clipped(room, b + 192, w, max, out, at);
         return;
     }
-    if max == 255 {
-        row_down_low(p, room, b, w, out, at);
-        return;
-    }
-    row_filtered(room, 64, b, p, w, max, out, at)
+    rows_down(room, b, p, w, max, 1, out, at, 0)
 }
 
 fn mean(a: u16, b: u16) -> u16

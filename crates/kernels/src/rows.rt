@@ -5,7 +5,8 @@ ghost use lib.ListN.{length};
 ghost use Rattle.base.specs.Paint.{fill};
 ghost use Rattle.kernels.specs.Taps.{filters, tap};
 ghost use Rattle.kernels.specs.Filter.{filtered};
-ghost use Rattle.kernels.specs.Kernel.{IsTaps, products, raisedOne, apart, ran, stepped, clipped, listed, heldFrom, levels};
+ghost use Rattle.kernels.specs.Kernel.{IsTaps, products, raisedOne, apart, ran, stepped, clipped, alike, onward, heldFrom, levels};
+use crate::lanes::rows_across;
 use crate::taps::Taps;
 use crate::taps::taps_at;
 
@@ -22,7 +23,7 @@ fn mul(t: u16, x: u16) -> u32
     (t as u32) * (x as u32)
 }
 
-pub(crate) fn dot(p: Taps, a: u16, b: u16, c: u16, d: u16, e: u16, f: u16, g: u16, h: u16) -> u32
+fn dot(p: Taps, a: u16, b: u16, c: u16, d: u16, e: u16, f: u16, g: u16, h: u16) -> u32
     requires { ⌜ IsTaps p ⌝ }
     ensures { λ r. ⌜ (r ≡ products p a b c d e f g h) × (r ≤ 79690560) ⌝ }
 {
@@ -37,7 +38,7 @@ pub(crate) fn dot(p: Taps, a: u16, b: u16, c: u16, d: u16, e: u16, f: u16, g: u1
 }
 
 // What the 24 on each tap added to the sum.
-pub(crate) fn surplus(a: u16, b: u16, c: u16, d: u16, e: u16, f: u16, g: u16, h: u16) -> u32
+fn surplus(a: u16, b: u16, c: u16, d: u16, e: u16, f: u16, g: u16, h: u16) -> u32
     ensures { λ r. ⌜ r ≡ 24 * (a + b + c + d + e + f + g + h) ⌝ }
 {
     24 * (wide(a) + wide(b) + wide(c) + wide(d) + wide(e) + wide(f) + wide(g) + wide(h))
@@ -177,24 +178,58 @@ pub fn held(b: usize, last: usize) -> usize
     if d < last { d } else { last }
 }
 
-fn held_sample(row: &[u16], last: usize, b: usize) -> u16
-    requires { ⌜ last < length (now row) ⌝ }
-    ensures { λ r. ⌜ r ≡ listed (now (row .entry)) (min (b - 200003) last) ⌝ }
+pub(crate) fn fewer(a: usize, b: usize) -> usize
+    ensures { λ r. ⌜ r ≡ min a b ⌝ }
 {
-    let u = held(b, last);
-    row[u]
+    if a < b { a } else { b }
 }
 
-// The samples of m lifted columns from b on, each column held into the plane.
+// How many of m lifted columns from b on stand left of the plane.
+fn left_of(b: usize, m: usize) -> usize
+    ensures { λ r. ⌜ r ≡ min (200003 - b) m ⌝ }
+{
+    if 200003 < b {
+        return 0;
+    }
+    fewer(200003 - b, m)
+}
+
+fn run_same(v: u16, n: usize, line: &mut [u16], at: usize)
+    requires { ⌜ at + n ≤ length (now line) ⌝ }
+    ensures { λ _. ⌜ now (line .exit) ≡ fill (now (line .entry)) at n (alike v) ⌝ }
+{
+    let mut c = 0;
+    while c < n {
+        let o = at + c;
+        line[o] = v;
+        c += 1;
+    }
+}
+
+pub(crate) fn run_copied(row: &[u16], s: usize, n: usize, line: &mut [u16], at: usize)
+    requires { ⌜ (s + n ≤ length (now row)) × (at + n ≤ length (now line)) ⌝ }
+    ensures { λ _. ⌜ now (line .exit) ≡ fill (now (line .entry)) at n (onward (now (row .entry)) s) ⌝ }
+{
+    let mut c = 0;
+    while c < n {
+        let o = at + c;
+        let i = s + c;
+        line[o] = row[i];
+        c += 1;
+    }
+}
+
+// The samples of m lifted columns from b on, each column held into the plane: its first sample again and again, the row itself, its last.
 fn gather(row: &[u16], last: usize, b: usize, m: usize, line: &mut [u16])
     requires { ⌜ (last < length (now row)) × (b ≤ 400000) × (m ≤ length (now line)) × (m ≤ 136) ⌝ }
     ensures { λ _. ⌜ now (line .exit) ≡ fill (now (line .entry)) 0 m (heldFrom (now (row .entry)) last b) ⌝ }
 {
-    let mut j = 0;
-    while j < m {
-        line[j] = held_sample(row, last, b + j);
-        j += 1;
-    }
+    let l = left_of(b, m);
+    let s = held(b, last);
+    let k = fewer(last + 1 - s, m - l);
+    run_same(row[0], l, line, 0);
+    run_copied(row, s, k, line, l);
+    run_same(row[last], m - l - k, line, l + k)
 }
 
 // A row of results over samples that need no holding.
@@ -223,7 +258,7 @@ fn row_line(
         row_clipped(l, d + 3, w, max, out, at);
         return;
     }
-    row_filtered(l, 1, d, p, w, max, out, at)
+    rows_across(l, d, 0, p, w, max, 1, out, at, 0)
 }
 
 // A row of results near an edge, over a line of held samples.

@@ -1,9 +1,11 @@
--- `kernels::down::row_down` meets its contract: phase 0 is the fourth row, and 8 bits have a way of their own. Assumes nothing.
+-- `kernels::down::row_down` meets its contract: phase 0 is the fourth row, any other the first of one row. Assumes nothing.
+use Rattle.base.proofs.Painted.{fill-same}
+use Rattle.kernels.proofs.Lines.{first-row, down-whole}
+use Rattle.kernels.proofs.Loops.{one-row}
+use Rattle.kernels.proofs.Low.{one-below}
+use borrow.Author.Needs.{needs}
 use mathlib.Core.Path.{_≡_, _∙_}
 use native.Mathlib.Omega.{arith}
-use borrow.Author.Needs.{needs}
-use Rattle.base.proofs.Painted.{fill-same}
-use Rattle.kernels.proofs.Lines.{down-whole}
 use Rattle.kernels.proofs.down.row_down.Statement.{statement}
 use Rattle.kernels.proofs.down.row_down.Tie as tie
 
@@ -27,12 +29,11 @@ returns c =
     (r .row-clipped .ensures
     ∙ fill-same _ _ _ _ _ (λ k kw. down-whole (a .max) (a .p .filter) (a .room .now) (a .b) k (s .pre .1 .0 .0)))
 
-row-down-low-requires : tie.Need-row-down-low-requires
-row-down-low-requires c κs =
-    let s1 = c .before .before .before in
-    let s = s1 .before .before .before in
-    let e : s .args .max ≡ 255 = omega arith in
-    (s .pre .0, (s .pre .1 .0, rw e at (s .pre .1 .1)))
+rows-down-requires : tie.Need-rows-down-requires
+rows-down-requires c κs =
+    let i = c .before in
+    let s = i .before .before .before .before in
+    (s .pre .0, (omega (arith, s .pre .1 .0), (omega (arith, s .pre .1 .0), one-below (s .pre .1 .1))))
 
 same-length-2 : tie.Need-same-length-2
 same-length-2 c = search needs
@@ -41,19 +42,11 @@ returns-2 : tie.Need-returns-2
 returns-2 c =
     let r = c .before .before in
     let s1 = r .before .before .before in
-    let s2 = s1 .before .before .before in
-    let s = s2 .before in
-    let e : s .args .max ≡ 255 = omega arith in
-    rw e (r .row-down-low .ensures)
-
-row-filtered-requires : tie.Need-row-filtered-requires
-row-filtered-requires c κs = search needs
-
-same-length-3 : tie.Need-same-length-3
-same-length-3 c = search needs
-
-returns-3 : tie.Need-returns-3
-returns-3 c = search needs
+    let s = s1 .before .before .before in
+    let a = s .args in
+    r .rows-down .ensures
+    ∙ one-row _ _ _ _ _
+    ∙ fill-same _ _ _ _ _ (λ k kw. first-row (a .max) _ (a .room .now) 64 (a .b) 64 k)
 
 pub row-down-spec : {M : Type 1} → statement M
 row-down-spec =
@@ -63,9 +56,6 @@ row-down-spec =
     row-clipped-requires
     same-length
     returns
-    row-down-low-requires
+    rows-down-requires
     same-length-2
-    returns-2
-    row-filtered-requires
-    same-length-3
-    returns-3)
+    returns-2)

@@ -1,69 +1,142 @@
--- `kernels::rows::gather` meets its contract. The loop keeps up that the first j held samples are written. Assumes nothing.
-use mathlib.Core.Path.{_≡_}
-use Prim.Native.Nat.{_+_, _-_, _≤_}
-use native.Mathlib.Omega.{arith}
-use borrow.Author.Needs.{needs}
+-- `kernels::rows::gather` meets its contract: three runs, one after the other. Assumes nothing.
+use Prim.Native.Nat.{ℕ, _+_, _-_, _<_, _≤_}
+use Rattle.base.proofs.Lift.{Start}
+use Rattle.base.proofs.Painted.{length-fill}
 use Rattle.base.specs.Answer.{row}
-use Rattle.kernels.specs.Kernel.{heldFrom}
-use Rattle.kernels.proofs.Loops.{Filling, fill-none, fill-turn}
+use Rattle.base.specs.Paint.{fill}
+use Rattle.kernels.proofs.Runs.{Cut, cut, three-runs}
+use Rattle.kernels.specs.Kernel.{alike, onward}
+use borrow.Author.Needs.{needs}
+use lib.ListN.{length, getD}
+use mathlib.Core.List.{List}
+use mathlib.Core.Path.{_≡_, ap, _∙_}
+use native.Mathlib.Omega.{arith}
 use Rattle.kernels.proofs.rows.gather.Statement.{statement}
 use Rattle.kernels.proofs.rows.gather.Tie as tie
 
-abbrev Inv-loop : tie.InvT-loop
-Inv-loop row last b m line₀ j₀ line j = (j ≤ m) × Filling line₀ 0 j (heldFrom row last b) line
+abbrev entry : tie.After-fewer → tie.Start
+entry c = c .before .before .before .before .before
 
-abbrev μ-loop : tie.MeasureT-loop
-μ-loop row last b m line₀ j₀ line j = m - j
+abbrev fresh : tie.After-run-same → tie.After-fewer
+fresh c = c .before .before .before
 
-loop-holds : tie.Need-loop-holds Inv-loop μ-loop
-loop-holds c = (omega arith, fill-none _ _ _)
+abbrev once : tie.After-run-copied → tie.After-run-same
+once c = c .before .before .before .before
 
-add-held-sample : tie.Need-add-held-sample Inv-loop μ-loop
-add-held-sample c = omega arith
+-- where the runs end
+ends : (c : tie.After-fewer)
+    → Cut (entry c .args .last) (entry c .args .b) (entry c .args .m) (c .before .before .left-of .result) (c .before .held .result) (c .fewer .result)
+ends c = cut _ _ _ _ _ _ (c .before .before .left-of .ensures) (c .before .held .ensures) (c .fewer .ensures)
 
-held-sample-requires : tie.Need-held-sample-requires Inv-loop μ-loop
-held-sample-requires c κs = search needs
+part : (l k m n : ℕ) → l + k ≤ m → m ≤ n → 0 + l ≤ n
+part l k m n fit long = omega arith
 
-mul-line : tie.Need-mul-line Inv-loop μ-loop
-mul-line c = omega arith
+inside : (x last n : ℕ) → x ≤ last + 1 → last < n → x ≤ n
+inside x last n h below = omega arith
 
-slice-write-line : tie.Need-slice-write-line Inv-loop μ-loop
-slice-write-line c = omega arith
+within : (l k m n long : ℕ) → l + k ≤ m → m ≤ n → long ≡ n → l + k ≤ long
+within l k m n long fit h e = omega arith
 
-add-j : tie.Need-add-j Inv-loop μ-loop
-add-j c = omega arith
+above : (l k m : ℕ) → l + k ≤ m → l ≤ m
+above l k m fit = omega arith
 
-loop-less : tie.Need-loop-less Inv-loop μ-loop
-loop-less c = omega arith
+left-over : (l k m : ℕ) → l + k ≤ m → k ≤ m - l
+left-over l k m fit = omega arith
 
-loop-again : tie.Need-loop-again Inv-loop μ-loop
-unfolding heldFrom
-loop-again c =
-    let l = c .before .before .loop in
-    let e : 0 + l .j ≡ l .j = omega arith in (
-      omega arith,
-      rw e at (fill-turn _ (l .inv .1) (c .held-sample .ensures)),
-    )
+rest : (l k m n long : ℕ) → l + k ≤ m → m ≤ n → long ≡ n → l + k + (m - l - k) ≤ long
+rest l k m n long fit h e = omega arith
 
-same-length : tie.Need-same-length Inv-loop μ-loop
-same-length c = c .before .loop .inv .1 .long
+left-of-requires : tie.Need-left-of-requires
+left-of-requires c κs = search needs
 
-returns : tie.Need-returns Inv-loop μ-loop
-returns c = let l = c .before in let e : l .loop .j ≡ l .before .before .before .args .m = omega arith in rw e at (l .loop .inv .1 .is)
+held-requires : tie.Need-held-requires
+held-requires c κs = search needs
+
+add-fewer : tie.Need-add-fewer
+add-fewer c = search needs
+
+sub-fewer : tie.Need-sub-fewer
+sub-fewer c = search needs
+
+sub-fewer-2 : tie.Need-sub-fewer-2
+sub-fewer-2 c = search needs
+
+fewer-requires : tie.Need-fewer-requires
+fewer-requires c κs = search needs
+
+shared-slice-read-run-same : tie.Need-shared-slice-read-run-same
+shared-slice-read-run-same c = search needs
+
+run-same-requires : tie.Need-run-same-requires
+run-same-requires c κs = let e = ends (c .before .before) in part _ _ _ _ (e .fits .0) (entry (c .before .before) .pre .2)
+
+run-copied-requires : tie.Need-run-copied-requires
+run-copied-requires c κs =
+    let r = c .before .before .before in
+    let f = fresh r in
+    let e = ends f in
+    (inside _ _ _ (e .fits .1) (entry f .pre .0), within _ _ _ _ _ (e .fits .0) (entry f .pre .2) (ap length (r .run-same .ensures) ∙ length-fill _ _ _ _))
+
+mul-run-same : tie.Need-mul-run-same
+mul-run-same c = search needs
+
+shared-slice-read-run-same-2 : tie.Need-shared-slice-read-run-same-2
+shared-slice-read-run-same-2 c = search needs
+
+sub-run-same : tie.Need-sub-run-same
+sub-run-same c = let e = ends (fresh (once (c .before .before .before))) in above _ _ _ (e .fits .0)
+
+sub-run-same-2 : tie.Need-sub-run-same-2
+sub-run-same-2 c = let e = ends (fresh (once (c .before .before .before))) in left-over _ _ _ (e .fits .0)
+
+add-run-same : tie.Need-add-run-same
+add-run-same c =
+    let f = fresh (once (c .before .before .before .before)) in
+    let e = ends f in
+    omega (arith, e .fits .0, entry f .pre .3)
+
+run-same-requires-2 : tie.Need-run-same-requires-2
+run-same-requires-2 c κs =
+    let r = c .before .before .before .before in
+    let f = fresh (once r) in
+    let e = ends f in
+    rest _ _ _ _ _ (e .fits .0) (entry f .pre .2) (ap length (r .run-copied .ensures) ∙ length-fill _ _ _ _ ∙ ap length (once r .run-same .ensures) ∙ length-fill _ _ _ _)
+
+same-length : tie.Need-same-length
+same-length c = search needs
+
+returns : tie.Need-returns
+returns c =
+    let t = c .before .before in
+    let r = t .before .before .before .before .before in
+    let f = fresh (once r) in
+    let a = entry f .args in
+    let l = f .before .before .left-of .result in
+    let s = f .before .held .result in
+    let k = f .fewer .result in
+    t .run-same2 .ensures
+    ∙ ap (λ (x : List ℕ). fill x (l + k) (a .m - l - k) (alike (getD (a .row .now) (a .last) 0)))
+    (r .run-copied .ensures ∙ ap (λ (x : List ℕ). fill x l k (onward (a .row .now) s)) (once r .run-same .ensures))
+    ∙ three-runs (a .last) (a .b) (a .m) l s k (a .row .now) (a .line .now) (ends f)
 
 pub gather-spec : {M : Type 1} → statement M
 gather-spec =
     tie.close
     (tie.spec
-    Inv-loop
-    μ-loop
-    loop-holds
-    add-held-sample
-    held-sample-requires
-    mul-line
-    slice-write-line
-    add-j
-    loop-less
-    loop-again
+    left-of-requires
+    held-requires
+    add-fewer
+    sub-fewer
+    sub-fewer-2
+    fewer-requires
+    shared-slice-read-run-same
+    run-same-requires
+    run-copied-requires
+    mul-run-same
+    shared-slice-read-run-same-2
+    sub-run-same
+    sub-run-same-2
+    add-run-same
+    run-same-requires-2
     same-length
     returns)

@@ -5,7 +5,8 @@ use native.Mathlib.Omega.{arith}
 use borrow.Author.Needs.{needs}
 use Rattle.base.proofs.Painted.{fill-same}
 use Rattle.kernels.specs.Taps.{tap}
-use Rattle.kernels.proofs.Lines.{ran-stepped, clipped-stepped}
+use Rattle.kernels.proofs.Lines.{first-row, ran-stepped, clipped-stepped}
+use Rattle.kernels.proofs.Loops.{one-row}
 use Rattle.kernels.proofs.rows.row_line.Statement.{statement}
 use Rattle.kernels.proofs.rows.row_line.Tie as tie
 
@@ -44,13 +45,13 @@ returns-2 c =
     (c .before .before .row-clipped .ensures
     ∙ fill-same _ _ _ _ _ (λ k kw. clipped-stepped (a .max) (a .p .filter) (a .l .now) (a .d) k (s .pre .1 .1 .0 .0)))
 
-row-filtered-requires : tie.Need-row-filtered-requires
-row-filtered-requires c κs =
+rows-across-requires : tie.Need-rows-across-requires
+rows-across-requires c κs =
     let x = c .before .before .before in
     let s = x .before .before .before in
     let a = s .args in
     let e : a .step ≡ 16 = omega arith in
-    (s .pre .1 .0, omega (arith, ap (λ (k : ℕ). k * (a .w - 1)) e, s .pre .1 .1 .1))
+    (s .pre .1 .0, (omega (arith, s .pre .1 .1 .0), omega (arith, ap (λ (k : ℕ). k * (a .w - 1)) e, s .pre .1 .1 .1)))
 
 same-length-3 : tie.Need-same-length-3
 same-length-3 c = search needs
@@ -63,8 +64,9 @@ returns-3 c =
     let a = s .args in
     let e : a .step ≡ 16 = omega arith in
     rw e
-    (c .before .before .row-filtered .ensures
-    ∙ fill-same _ _ _ _ _ (λ k kw. ran-stepped (a .max) (tap (a .p .filter)) (a .l .now) (a .d) (a .p .phase) k (s .pre .1 .1 .0 .1)))
+    (c .before .before .rows-across .ensures
+    ∙ one-row _ _ _ _ _
+    ∙ fill-same _ _ _ _ _ (λ k kw. first-row (a .max) _ (a .l .now) 1 (a .d) 0 k ∙ ran-stepped (a .max) (tap (a .p .filter)) (a .l .now) (a .d) (a .p .phase) k (s .pre .1 .1 .0 .1)))
 
 pub row-line-spec : {M : Type 1} → statement M
 row-line-spec =
@@ -77,6 +79,6 @@ row-line-spec =
     row-clipped-requires
     same-length-2
     returns-2
-    row-filtered-requires
+    rows-across-requires
     same-length-3
     returns-3)

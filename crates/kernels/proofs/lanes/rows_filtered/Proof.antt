@@ -1,0 +1,95 @@
+-- `kernels::lanes::rows_filtered` meets its contract. The loop keeps up that the first i rows are written. Assumes nothing.
+use Prim.Native.Nat.{_-_, _*_, _<_, _≤_}
+use Rattle.kernels.proofs.Loops.{FillingRows, rows-none, rows-turn}
+use lib.ListN.{length}
+use Rattle.kernels.specs.Kernel.{ranRows}
+use Rattle.kernels.specs.Taps.{tap}
+use mathlib.Core.Path.{_≡_}
+use native.Mathlib.Nat.{mul-le-mul-right}
+use native.Mathlib.Omega.{arith}
+use Rattle.kernels.proofs.lanes.rows_filtered.Statement.{statement}
+use Rattle.kernels.proofs.lanes.rows_filtered.Tie as tie
+
+abbrev Inv-loop : tie.InvT-loop
+Inv-loop l n b line p w max h out₀ at stride i₀ out i = (i ≤ h) × FillingRows out₀ at stride w i (ranRows max (tap (p .filter) (p .phase)) l n b line) out
+
+abbrev μ-loop : tie.MeasureT-loop
+μ-loop l n b line p w max h out₀ at stride i₀ out i = h - i
+
+short : (k : tie.After-slice-known Inv-loop μ-loop) → length (k .before .before .args .out .now) < 18446744073709551616
+short k = omega arith
+
+loop-holds : tie.Need-loop-holds Inv-loop μ-loop
+loop-holds c = (omega arith, rows-none _ _ _ _ _)
+
+mul-row-filtered : tie.Need-mul-row-filtered Inv-loop μ-loop
+mul-row-filtered c =
+    let l = c .before in
+    let s = l .before .before .before in
+    let e : l .loop .i ≤ s .args .h - 1 = omega (arith, l .loop .inv .0) in
+    omega (arith, mul-le-mul-right (s .args .line) e, s .pre .1)
+
+add-row-filtered : tie.Need-add-row-filtered Inv-loop μ-loop
+add-row-filtered c =
+    let l = c .before in
+    let s = l .before .before .before in
+    let e : l .loop .i ≤ s .args .h - 1 = omega (arith, l .loop .inv .0) in
+    omega (arith, mul-le-mul-right (s .args .line) e, s .pre .1)
+
+mul-row-filtered-2 : tie.Need-mul-row-filtered-2 Inv-loop μ-loop
+mul-row-filtered-2 c =
+    let l = c .before .before in
+    let s = l .before .before .before in
+    let e : l .loop .i ≤ s .args .h - 1 = omega (arith, l .loop .inv .0) in
+    omega (arith, mul-le-mul-right (s .args .stride) e, s .pre .1, short (l .before))
+
+add-row-filtered-2 : tie.Need-add-row-filtered-2 Inv-loop μ-loop
+add-row-filtered-2 c =
+    let l = c .before .before in
+    let s = l .before .before .before in
+    let e : l .loop .i ≤ s .args .h - 1 = omega (arith, l .loop .inv .0) in
+    omega (arith, mul-le-mul-right (s .args .stride) e, s .pre .1, short (l .before))
+
+row-filtered-requires : tie.Need-row-filtered-requires Inv-loop μ-loop
+row-filtered-requires c κs =
+    let l = c .before .before in
+    let s = l .before .before .before in
+    let e : l .loop .i ≤ s .args .h - 1 = omega (arith, l .loop .inv .0) in
+    (s .pre .0, omega (arith, mul-le-mul-right (s .args .line) e, mul-le-mul-right (s .args .stride) e, s .pre .1, l .loop .inv .1 .long))
+
+add-i : tie.Need-add-i Inv-loop μ-loop
+add-i c = omega arith
+
+loop-less : tie.Need-loop-less Inv-loop μ-loop
+loop-less c = omega arith
+
+loop-again : tie.Need-loop-again Inv-loop μ-loop
+unfolding ranRows
+loop-again c =
+    let r = c .before .before in
+    let l = r .before .before .before .loop in
+    (omega arith, rows-turn (l .inv .1) (r .row-filtered .ensures))
+
+same-length : tie.Need-same-length Inv-loop μ-loop
+same-length c = c .before .loop .inv .1 .long
+
+returns : tie.Need-returns Inv-loop μ-loop
+returns c = let l = c .before in let e : l .loop .i ≡ l .before .before .before .args .h = omega arith in rw e at (l .loop .inv .1 .is)
+
+pub rows-filtered-spec : {M : Type 1} → statement M
+rows-filtered-spec =
+    tie.close
+    (tie.spec
+    Inv-loop
+    μ-loop
+    loop-holds
+    mul-row-filtered
+    add-row-filtered
+    mul-row-filtered-2
+    add-row-filtered-2
+    row-filtered-requires
+    add-i
+    loop-less
+    loop-again
+    same-length
+    returns)
