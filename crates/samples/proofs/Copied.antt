@@ -1,18 +1,21 @@
 -- Rows of copies are the horizontal pass at whole columns in steps of 16: a row of the plane, rows of one band, and the band's length.
 -- Assumes nothing.
-use mathlib.Core.Path.{_≡_, sym, ap}
+use mathlib.Core.Path.{_≡_, refl, sym, ap, _∙_}
+use mathlib.Core.List.{List}
 use mathlib.Core.Bool.{true, false}
-use Prim.Native.Nat.{ℕ, _+_, _-_, _*_, _/_, _%_, _<_, _≤_, min}
+use Prim.Native.Nat.{ℕ, zero, suc, _+_, _-_, _*_, _/_, _%_, _<_, _≤_, min}
 use native.Mathlib.Nat.{zero-add, add-mul, min-le-right}
 use native.Mathlib.Omega.{arith}
 use borrow.Author.Tests.{leb-true, lt-ltb, le-ltb}
 use lib.Dec.{ltb}
-use lib.ListN.{length}
+use lib.IntN.{ℤ}
+use lib.ListN.{length, getD}
+use Rattle.base.specs.Paint.{fill, paint}
 use Rattle.base.proofs.Tests.{and-both}
 use Rattle.kernels.specs.Taps.{tap}
-use Rattle.kernels.specs.Kernel.{clipped, heldFrom, level, seat}
+use Rattle.kernels.specs.Kernel.{apart, clipped, fillRows, heldFrom, level, ran, ranRows, seat}
 use Rattle.kernels.specs.Copy.{Rows, clippedRows, still}
-use Rattle.kernels.proofs.Filtered.{filtered-whole}
+use Rattle.kernels.proofs.Filtered.{filtered-same, filtered-whole}
 use Rattle.samples.specs.Plane.{Lent, plane, rowOf, widthOf, heightOf, holds, fits}
 use Rattle.samples.specs.Lifted.{acrossFrom, copyFrom, inside}
 use Rattle.samples.proofs.Bands.{row-at, holds-row, fits-says}
@@ -90,10 +93,12 @@ module _ (max : ℕ) (p : Lent) (b y0 w n : ℕ) (in-x : inside b w (widthOf (p 
         (holds-row _ _ _ _ (y0 - 200003 - p .geom .«upper_rows» + i) (fits-says p fit .lower) (row-below _ n _ _ i h (y .1) ni)) (x .1);
   }
 
-  pub upper-copy : y0 - 200003 + n ≤ p .geom .«upper_rows» → (i c : ℕ) → i < n → c < w
-      → clippedRows max (p .upper) ((y0 - 200003) * p .geom .stride + (b - 200003)) (p .geom .stride) i c ≡ copyFrom max p b y0 i c
-  unfolding clippedRows clipped copyFrom plane
-  upper-copy h i c ni cw =
+  -- what the band has where the rectangle reads
+  pub upper-at : y0 - 200003 + n ≤ p .geom .«upper_rows» → (i c : ℕ) → i < n → c < w
+      → getD (p .upper) ((y0 - 200003) * p .geom .stride + (b - 200003) + i * p .geom .stride + c) 0
+      ≡ plane p (min (y0 + i - 200003) (heightOf (p .geom) - 1)) (min (b + c - 200003) (widthOf (p .geom) - 1))
+  unfolding plane
+  upper-at h i c ni cw =
       rw (
         at-inside y0 n (heightOf (p .geom)) i (y .0) (y .1) ni,
         at-inside b w (widthOf (p .geom)) c (x .0) (x .1) cw,
@@ -101,11 +106,11 @@ module _ (max : ℕ) (p : Lent) (b y0 w n : ℕ) (in-x : inside b w (widthOf (p 
         place-is (y0 - 200003) (b - 200003) (p .geom .stride) i c,
       )
 
-  pub lower-copy : p .geom .«upper_rows» ≤ y0 - 200003 → (i c : ℕ) → i < n → c < w
-      → clippedRows max (p .lower) ((y0 - 200003 - p .geom .«upper_rows») * p .geom .stride + (b - 200003)) (p .geom .stride) i c
-      ≡ copyFrom max p b y0 i c
-  unfolding clippedRows clipped copyFrom plane
-  lower-copy h i c ni cw =
+  pub lower-at : p .geom .«upper_rows» ≤ y0 - 200003 → (i c : ℕ) → i < n → c < w
+      → getD (p .lower) ((y0 - 200003 - p .geom .«upper_rows») * p .geom .stride + (b - 200003) + i * p .geom .stride + c) 0
+      ≡ plane p (min (y0 + i - 200003) (heightOf (p .geom) - 1)) (min (b + c - 200003) (widthOf (p .geom) - 1))
+  unfolding plane
+  lower-at h i c ni cw =
       rw (
         at-inside y0 n (heightOf (p .geom)) i (y .0) (y .1) ni,
         at-inside b w (widthOf (p .geom)) c (x .0) (x .1) cw,
@@ -113,3 +118,38 @@ module _ (max : ℕ) (p : Lent) (b y0 w n : ℕ) (in-x : inside b w (widthOf (p 
         less-add _ _ i h,
         place-is (y0 - 200003 - p .geom .«upper_rows») (b - 200003) (p .geom .stride) i c,
       )
+
+  pub upper-copy : y0 - 200003 + n ≤ p .geom .«upper_rows» → (i c : ℕ) → i < n → c < w
+      → clippedRows max (p .upper) ((y0 - 200003) * p .geom .stride + (b - 200003)) (p .geom .stride) i c ≡ copyFrom max p b y0 i c
+  unfolding clippedRows clipped copyFrom
+  upper-copy h i c ni cw = ap (λ (v : ℕ). min v max) (upper-at h i c ni cw)
+
+  pub lower-copy : p .geom .«upper_rows» ≤ y0 - 200003 → (i c : ℕ) → i < n → c < w
+      → clippedRows max (p .lower) ((y0 - 200003 - p .geom .«upper_rows») * p .geom .stride + (b - 200003)) (p .geom .stride) i c
+      ≡ copyFrom max p b y0 i c
+  unfolding clippedRows clipped copyFrom
+  lower-copy h i c ni cw = ap (λ (v : ℕ). min v max) (lower-at h i c ni cw)
+
+-- rows of one phase over a list that has what eight taps read are the horizontal pass in steps of 16
+pub even-row : (max : ℕ) (taps : ℕ → ℕ → ℤ) (p : Lent) (l : List ℕ) (s line start y0 w n : ℕ)
+    → ((i c : ℕ) → i < n → c < w + 7 → getD l (s + i * line + c) 0
+    ≡ plane p (min (y0 + i - 200003) (heightOf (p .geom) - 1)) (min (start / 16 + c - 200003) (widthOf (p .geom) - 1)))
+    → (i c : ℕ) → i < n → c < w → ranRows max (taps (start % 16)) l 1 s line i c ≡ acrossFrom max taps p start 16 y0 i c
+unfolding ranRows ran apart acrossFrom level seat
+even-row max taps p l s line start y0 w n same i c ni cw =
+    let phase : start % 16 ≡ (start + 16 * c) % 16 = omega arith in
+    filtered-same max _ _ _ _
+    (λ t t8.
+    let place : s + i * line + c + 1 * t ≡ s + i * line + (c + t) = omega arith in
+    let column : start / 16 + (c + t) ≡ (start + 16 * c) / 16 + t = omega arith in (
+      ap (λ (m : ℕ). taps m t) phase,
+      ap (λ (k : ℕ). getD l k 0) place ∙ same i (c + t) ni (omega arith)
+          ∙ ap (λ (k : ℕ). plane p (min (y0 + i - 200003) (heightOf (p .geom) - 1)) (min (k - 200003) (widthOf (p .geom) - 1))) column,
+    ))
+
+-- rows from the first place on are a painted rectangle
+pub rows-painted : (l : List ℕ) (stride w h : ℕ) (f : ℕ → ℕ → ℕ) → fillRows l 0 stride w h f ≡ paint l stride w h f
+unfolding fillRows paint
+rows-painted l stride w zero f = refl
+rows-painted l stride w (suc h) f =
+    rw zero-add (ap (λ (m : List ℕ). fill m (h * stride) w (f h)) (rows-painted l stride w h f))

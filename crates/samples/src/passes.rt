@@ -17,7 +17,9 @@ use kernels::row_averaged;
 use kernels::row_down;
 use kernels::row_down_mean;
 use kernels::row_held;
+use kernels::rows_across;
 use kernels::rows_copied;
+use kernels::rows_down;
 use kernels::subpel_filters;
 use kernels::taps_at;
 
@@ -136,6 +138,77 @@ pub(crate) fn pass_copied<'a>(
     rows_held(upper, lower, pw, ph, stride, k, b, y0, n, w, max, out, rs)
 }
 
+// The horizontal pass in steps of 16: all rows at once from the band that has them, where nothing has to be held.
+fn pass_even<'a>(
+    table: &[[[i16; 8]; 16]; 4],
+    p: Taps,
+    upper: &'a [u16],
+    lower: &'a [u16],
+    pw: usize,
+    ph: usize,
+    stride: usize,
+    k: usize,
+    start: usize,
+    y0: usize,
+    n: usize,
+    w: usize,
+    max: u16,
+    room: &mut [u16],
+    rs: usize,
+)
+    requires { ⌜ now table ≡ filters ⌝ }
+    requires { ⌜ IsTaps p ⌝ }
+    requires { ⌜ (p .filter < 4) × (p .phase ≡ start % 16) × (start ≤ 6400000) × (0 < w) × (w ≤ 64) ⌝ }
+    requires { ⌜ (0 < pw) × (0 < ph) × (y0 ≤ 400003) × (0 < n) × (n ≤ 134) ⌝ }
+    requires { ⌜ fits (view pw ph stride k (now upper) (now lower)) ≡ true ⌝ }
+    requires { ⌜ holds n rs w (length (now room)) ≡ true ⌝ }
+    ensures { λ _. ⌜ now (room .exit) ≡ paint (now (room .entry)) rs w n
+        (acrossFrom max (tap (p .filter)) (view pw ph stride k (now (upper .entry)) (now (lower .entry))) start 16 y0) ⌝ }
+{
+    let b = start / 16;
+    if inside(b, w + 7, pw) & inside(y0, n, ph) {
+        let d = b - 200003;
+        let e = y0 - 200003;
+        if e + n <= k {
+            rows_across(upper, e * stride + d, stride, p, w, max, n, room, 0, rs);
+            return;
+        }
+        if k <= e {
+            rows_across(
+                lower,
+                (e - k) * stride + d,
+                stride,
+                p,
+                w,
+                max,
+                n,
+                room,
+                0,
+                rs,
+            );
+            return;
+        }
+    }
+    pass_across(
+        table,
+        p,
+        upper,
+        lower,
+        pw,
+        ph,
+        stride,
+        k,
+        start,
+        16,
+        y0,
+        n,
+        w,
+        max,
+        room,
+        rs,
+    )
+}
+
 // The horizontal pass, whatever the columns: whole ones in steps of 16 are copies and need no taps.
 fn pass_rows<'a>(
     upper: &'a [u16],
@@ -154,7 +227,7 @@ fn pass_rows<'a>(
     room: &mut [u16],
     rs: usize,
 )
-    requires { ⌜ (filter < 4) × (start ≤ 6200000) × (step ≤ 32) × (0 < w) × (w ≤ 64) × (0 < pw) × (0 < ph) × (y0 ≤ 400003) × (n ≤ 134) ⌝ }
+    requires { ⌜ (filter < 4) × (start ≤ 6200000) × (step ≤ 32) × (0 < w) × (w ≤ 64) × (0 < pw) × (0 < ph) × (y0 ≤ 400003) × (0 < n) × (n ≤ 134) ⌝ }
     requires { ⌜ fits (view pw ph stride k (now upper) (now lower)) ≡ true ⌝ }
     requires { ⌜ holds n rs w (length (now room)) ≡ true ⌝ }
     ensures { λ _. ⌜ now (room .exit) ≡ paint (now (room .entry)) rs w n
@@ -180,6 +253,26 @@ fn pass_rows<'a>(
     }
     let table = subpel_filters();
     let p = taps_at(&table, filter, start % 16);
+    if step == 16 {
+        pass_even(
+            &table,
+            p,
+            upper,
+            lower,
+            pw,
+            ph,
+            stride,
+            k,
+            start,
+            y0,
+            n,
+            w,
+            max,
+            room,
+            rs,
+        );
+        return;
+    }
     pass_across(
         &table,
         p,
@@ -211,16 +304,12 @@ fn pass_down_even(
     stride: usize,
 )
     requires { ⌜ IsTaps p ⌝ }
-    requires { ⌜ (p .filter < 4) × (p .phase < 16) × (w ≤ 64) × (h ≤ 64) × (8576 ≤ length (now room)) ⌝ }
+    requires { ⌜ (p .filter < 4) × (p .phase < 16) × (w ≤ 64) × (0 < h) × (h ≤ 64) × (8576 ≤ length (now room)) ⌝ }
     requires { ⌜ holds h stride w (length (now out)) ≡ true ⌝ }
     requires { ⌜ HeldRoom max (now room) (h + 7) w ⌝ }
     ensures { λ _. ⌜ now (out .exit) ≡ paint (now (out .entry)) stride w h (downEven max (tap (p .filter) (p .phase)) (now (room .entry))) ⌝ }
 {
-    let mut r = 0;
-    while r < h {
-        row_down(p, room, r * 64, w, max, out, r * stride);
-        r += 1;
-    }
+    rows_down(room, 0, p, w, max, h, out, 0, stride)
 }
 
 // The vertical pass where the phase changes from row to row.
@@ -266,7 +355,7 @@ fn pass_down(
     stride: usize,
 )
     requires { ⌜ now table ≡ filters ⌝ }
-    requires { ⌜ (filter < 4) × (start ≤ 6400000) × (step ≤ 32) × (w ≤ 64) × (h ≤ 64) × (8576 ≤ length (now room)) ⌝ }
+    requires { ⌜ (filter < 4) × (start ≤ 6400000) × (step ≤ 32) × (w ≤ 64) × (0 < h) × (h ≤ 64) × (8576 ≤ length (now room)) ⌝ }
     requires { ⌜ holds h stride w (length (now out)) ≡ true ⌝ }
     requires { ⌜ HeldRoom max (now room) ((start % 16 + step * (h - 1)) / 16 + 8) w ⌝ }
     ensures { λ _. ⌜ now (out .exit) ≡ paint (now (out .entry)) stride w h (downAt max (tap filter) (now (room .entry)) start step) ⌝ }

@@ -45,7 +45,10 @@ returns c =
     ∙ paint-same _ _ _ _ _ _ (λ k j kh jw. down-even (a .max) (tap (a .filter)) (a .room .now) (a .start) k j))
 
 pass-down-stepped-requires : tie.Need-pass-down-stepped-requires
-pass-down-stepped-requires c κs = search needs
+pass-down-stepped-requires c κs =
+    let i = c .before .before in
+    let s = i .before .before in
+    (s .pre .0, (omega (arith, s .pre .1 .0), s .pre .1 .1))
 
 same-length-2 : tie.Need-same-length-2
 same-length-2 c = search needs

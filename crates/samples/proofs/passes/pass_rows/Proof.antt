@@ -47,13 +47,17 @@ subpel-filters-requires c κs = search needs
 taps-at-requires : tie.Need-taps-at-requires
 taps-at-requires c κs = let s = entry (c .before .before .before) in (c .before .subpel-filters .ensures, omega (arith, s .pre .0))
 
-pass-across-requires : tie.Need-pass-across-requires
-pass-across-requires c κs =
-    let t = c .before .before in
-    let f = t .before .before in
-    let s = entry (f .before .before) in
+-- from where the taps are there back to the entry
+abbrev begun : tie.After-taps-at → tie.Start
+begun c = let e = c .before .before .before in entry (e .before)
+
+pass-even-requires : tie.Need-pass-even-requires
+pass-even-requires c κs =
+    let t1 = c .before .before in
+    let t = t1 .before in
+    let s = begun t in
     let e = t .taps-at .ensures in
-    (f .subpel-filters .ensures, (e .0, (omega (arith, e .1, e .2, s .pre .0), (omega (arith, s .pre .0), s .pre .1))))
+    (t .before .before .subpel-filters .ensures, (e .0, (omega (arith, e .1, e .2, s .pre .0), (omega (arith, s .pre .0), s .pre .1))))
 
 same-length-2 : tie.Need-same-length-2
 same-length-2 c = search needs
@@ -61,7 +65,28 @@ same-length-2 c = search needs
 returns-2 : tie.Need-returns-2
 returns-2 c =
     let r = c .before .before in
-    let t = r .before .before .before in
+    let i1 = r .before .before in
+    let i = i1 .before in
+    let t = i .before in
+    let q : begun t .args .step ≡ 16 = omega arith in
+    rw q (rw (t .taps-at .ensures .1) at (r .pass-even .ensures))
+
+pass-across-requires : tie.Need-pass-across-requires
+pass-across-requires c κs =
+    let t1 = c .before .before in
+    let t = t1 .before in
+    let s = begun t in
+    let e = t .taps-at .ensures in
+    (t .before .before .subpel-filters .ensures, (e .0, (omega (arith, e .1, e .2, s .pre .0), (omega (arith, s .pre .0), s .pre .1))))
+
+same-length-3 : tie.Need-same-length-3
+same-length-3 c = search needs
+
+returns-3 : tie.Need-returns-3
+returns-3 c =
+    let r = c .before .before in
+    let i1 = r .before .before in
+    let t = i1 .before .before in
     rw (t .taps-at .ensures .1) at (r .pass-across .ensures)
 
 pub pass-rows-spec : {M : Type 1} → statement M
@@ -74,6 +99,9 @@ pass-rows-spec =
     returns
     subpel-filters-requires
     taps-at-requires
-    pass-across-requires
+    pass-even-requires
     same-length-2
-    returns-2)
+    returns-2
+    pass-across-requires
+    same-length-3
+    returns-3)
