@@ -1,5 +1,5 @@
 -- Eight samples that are at most 255: their sum modulo 65,536 loses nothing, since no row's taps add up to more than 182 above zero or 54
--- below it. Assumes nothing.
+-- below it. One law for both passes. Assumes nothing.
 use mathlib.Core.Path.{_≡_, refl, sym, ap, subst, _∙_}
 use mathlib.Core.Bool.{Bool, true, false, _&&_, cond}
 use mathlib.Core.List.{List, []}
@@ -15,7 +15,8 @@ use Rattle.base.proofs.Table.{every, entry}
 use Rattle.base.proofs.Tests.{and-left, and-right, and-both}
 use Rattle.kernels.specs.Taps.{regular, smooth, sharp, bilinear, filters, tap}
 use Rattle.kernels.specs.Filter.{filtered}
-use Rattle.kernels.specs.Kernel.{Raised, IsTaps, products, raisedOne, Below, BelowRows, UpToRows, lowTap, lowSum, lowOne, lowRan, lowRows, apart, ran, ranRows, fillRows}
+use Rattle.kernels.specs.Kernel.{Raised, IsTaps, products, raisedOne, Below, BelowRows, UpToRows, lowTap, lowSum, lowOne}
+use Rattle.kernels.specs.Kernel.{lowRan, lowRows, apart, ran, ranRows, fillRows}
 use Rattle.kernels.specs.declared.taps.Taps.{Taps}
 use Rattle.kernels.proofs.Filtered.{one-is}
 use Rattle.kernels.proofs.Loops.{rows-same}
@@ -92,7 +93,9 @@ whole : (v s n k : ℕ) → v + n ≡ s + 65536 * k → s ≤ n + 46410 → n �
 whole v s n k e hi lo = omega arith
 
 -- eight of them
-turned : (p : Taps) (x : ℕ → ℕ) → IsTaps p → Turned (lowSum p (x 0) (x 1) (x 2) (x 3) (x 4) (x 5) (x 6) (x 7)) (products p (x 0) (x 1) (x 2) (x 3) (x 4) (x 5) (x 6) (x 7)) (24 * (x 0 + x 1 + x 2 + x 3 + x 4 + x 5 + x 6 + x 7))
+turned : (p : Taps) (x : ℕ → ℕ) → IsTaps p
+    → Turned (lowSum p (x 0) (x 1) (x 2) (x 3) (x 4) (x 5) (x 6) (x 7)) (products p (x 0) (x 1) (x 2) (x 3) (x 4) (x 5) (x 6) (x 7))
+    (24 * (x 0 + x 1 + x 2 + x 3 + x 4 + x 5 + x 6 + x 7))
 turned p x r =
     let w0 = wound (p .t0) (x 0) (ltb (p .t0) 24) refl (r .t0 .le) in
     let w1 = wound (p .t1) (x 1) (ltb (p .t1) 24) refl (r .t1 .le) in
@@ -108,7 +111,8 @@ turned p x r =
     }
 
 ranged : (p : Taps) (x : ℕ → ℕ) → IsTaps p → p .filter < 4 → p .phase < 16 → ((t : ℕ) → t < 8 → x t ≤ 255)
-    → (products p (x 0) (x 1) (x 2) (x 3) (x 4) (x 5) (x 6) (x 7) ≤ 24 * (x 0 + x 1 + x 2 + x 3 + x 4 + x 5 + x 6 + x 7) + 46410) × (24 * (x 0 + x 1 + x 2 + x 3 + x 4 + x 5 + x 6 + x 7) ≤ products p (x 0) (x 1) (x 2) (x 3) (x 4) (x 5) (x 6) (x 7) + 13770)
+    → (products p (x 0) (x 1) (x 2) (x 3) (x 4) (x 5) (x 6) (x 7) ≤ 24 * (x 0 + x 1 + x 2 + x 3 + x 4 + x 5 + x 6 + x 7) + 46410)
+    × (24 * (x 0 + x 1 + x 2 + x 3 + x 4 + x 5 + x 6 + x 7) ≤ products p (x 0) (x 1) (x 2) (x 3) (x 4) (x 5) (x 6) (x 7) + 13770)
 ranged p x r f4 p16 low =
     let rule = tame (p .filter) (p .phase) f4 p16 in
     let l0 = low 0 (omega arith) in

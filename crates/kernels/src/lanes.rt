@@ -2,7 +2,7 @@
 ghost use mathlib.Core.Path.{_≡_};
 ghost use mathlib.Core.Bool.{true};
 ghost use Prim.Native.Nat.{_+_, _-_, _*_, _/_, _%_, _≤_, _<_, min};
-ghost use lib.ListN.{length, getD};
+ghost use lib.ListN.{length};
 ghost use Rattle.base.specs.Paint.{fill};
 ghost use Rattle.kernels.specs.Taps.{tap};
 ghost use Rattle.kernels.specs.Kernel.{IsTaps, eighths, BelowRows, UpTo, UpToRows, lowTap, lowSum, lowOne, lowAt, lowRan, lowRows, ranRows, fillRows};

@@ -18,7 +18,8 @@ returns c =
     let s = i .before .before .before in
     let a = s .args in
     r .rows-low-across .ensures
-    ∙ across-low (a .p) (a .l .now) (a .out .now) (a .b) (a .line) (a .w) (a .h) (a .at) (a .stride) (s .pre .0) (s .pre .1 .0 .0) (s .pre .1 .0 .1) (s .pre .1 .1 .1)
+    ∙ across-low (a .p) (a .l .now) (a .out .now) (a .b) (a .line) (a .w) (a .h) (a .at) (a .stride) (s .pre .0)
+    (s .pre .1 .0 .0) (s .pre .1 .0 .1) (s .pre .1 .1 .1)
 
 sub-if4 : tie.Need-sub-if4
 sub-if4 c = search needs
@@ -46,7 +47,8 @@ returns-2 c =
     let s = j .before .before .before in
     let a = s .args in
     r .narrow-across .ensures
-    ∙ across-low (a .p) (a .l .now) (a .out .now) (a .b) (a .line) (a .w) (a .h) (a .at) (a .stride) (s .pre .0) (s .pre .1 .0 .0) (s .pre .1 .0 .1) (s .pre .1 .1 .1)
+    ∙ across-low (a .p) (a .l .now) (a .out .now) (a .b) (a .line) (a .w) (a .h) (a .at) (a .stride) (s .pre .0)
+    (s .pre .1 .0 .0) (s .pre .1 .0 .1) (s .pre .1 .1 .1)
 
 rows-filtered-requires : tie.Need-rows-filtered-requires
 rows-filtered-requires c κs = search needs

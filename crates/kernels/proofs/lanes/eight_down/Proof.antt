@@ -3,7 +3,7 @@ use Rattle.kernels.proofs.Runs.{eight-written}
 use Rattle.kernels.specs.Kernel.{lowRan}
 use borrow.Author.Needs.{needs}
 use lib.ListN.{length-set}
-use mathlib.Core.Path.{_≡_, refl}
+use mathlib.Core.Path.{refl}
 use native.Mathlib.Nat.{add-zero}
 use native.Mathlib.Omega.{arith}
 use Rattle.kernels.proofs.lanes.eight_down.Statement.{statement}

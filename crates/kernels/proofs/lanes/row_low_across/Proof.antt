@@ -1,5 +1,5 @@
 -- `kernels::lanes::row_low_across` meets its contract. The loop keeps up that c results are written, eight at a time. Assumes nothing.
-use Prim.Native.Nat.{_+_, _-_, _%_, _≤_}
+use Prim.Native.Nat.{_-_, _%_, _≤_}
 use Rattle.kernels.proofs.Loops.{Filling, fill-none}
 use Rattle.kernels.proofs.Runs.{fill-eight}
 use Rattle.kernels.specs.Kernel.{lowRan}

@@ -1,5 +1,5 @@
 -- `kernels::lanes::rows_are_low` meets its contract. The loop keeps up that no sample so far is above v. Assumes nothing.
-use Prim.Native.Nat.{_-_, _*_, _≤_}
+use Prim.Native.Nat.{_-_, _≤_}
 use Rattle.kernels.proofs.Tops.{rows-top-none, rows-top-more, rows-weaker}
 use Rattle.kernels.specs.Kernel.{UpToRows}
 use borrow.Author.Needs.{needs}

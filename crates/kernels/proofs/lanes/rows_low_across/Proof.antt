@@ -1,5 +1,5 @@
 -- `kernels::lanes::rows_low_across` meets its contract. The loop keeps up that the first i rows are written. Assumes nothing.
-use Prim.Native.Nat.{_-_, _*_, _≤_}
+use Prim.Native.Nat.{_-_, _≤_}
 use Rattle.kernels.proofs.Loops.{FillingRows, rows-none, rows-turn}
 use Rattle.kernels.specs.Kernel.{lowRows}
 use mathlib.Core.Path.{_≡_}

@@ -1,5 +1,5 @@
 -- `kernels::lanes::top_of_row` meets its contract. The loop keeps up that no sample so far is above v. Assumes nothing.
-use Prim.Native.Nat.{_-_, _≤_, min}
+use Prim.Native.Nat.{_-_, min}
 use Rattle.kernels.proofs.Tops.{top-none, top-more}
 use Rattle.kernels.specs.Kernel.{UpTo}
 use borrow.Author.Needs.{needs}

@@ -100,7 +100,8 @@ run-same-requires-2 c κs =
     let r = c .before .before .before .before in
     let f = fresh (once r) in
     let e = ends f in
-    rest _ _ _ _ _ (e .fits .0) (entry f .pre .2) (ap length (r .run-copied .ensures) ∙ length-fill _ _ _ _ ∙ ap length (once r .run-same .ensures) ∙ length-fill _ _ _ _)
+    rest _ _ _ _ _ (e .fits .0) (entry f .pre .2)
+    (ap length (r .run-copied .ensures) ∙ length-fill _ _ _ _ ∙ ap length (once r .run-same .ensures) ∙ length-fill _ _ _ _)
 
 same-length : tie.Need-same-length
 same-length c = search needs

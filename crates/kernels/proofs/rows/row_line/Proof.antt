@@ -66,7 +66,10 @@ returns-3 c =
     rw e
     (c .before .before .rows-across .ensures
     ∙ one-row _ _ _ _ _
-    ∙ fill-same _ _ _ _ _ (λ k kw. first-row (a .max) _ (a .l .now) 1 (a .d) 0 k ∙ ran-stepped (a .max) (tap (a .p .filter)) (a .l .now) (a .d) (a .p .phase) k (s .pre .1 .1 .0 .1)))
+    ∙ fill-same _ _ _ _ _
+    (λ k kw.
+    first-row (a .max) _ (a .l .now) 1 (a .d) 0 k
+    ∙ ran-stepped (a .max) (tap (a .p .filter)) (a .l .now) (a .d) (a .p .phase) k (s .pre .1 .1 .0 .1)))
 
 pub row-line-spec : {M : Type 1} → statement M
 row-line-spec =

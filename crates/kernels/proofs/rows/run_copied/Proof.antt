@@ -1,6 +1,5 @@
 -- `kernels::rows::run_copied` meets its contract. The loop keeps up that the first c samples are written. Assumes nothing.
 use Prim.Native.Nat.{_-_, _≤_}
-use Rattle.base.specs.Answer.{row}
 use Rattle.kernels.proofs.Loops.{Filling, fill-none, fill-turn}
 use Rattle.kernels.specs.Kernel.{onward}
 use mathlib.Core.Path.{_≡_, refl}
