@@ -1,5 +1,5 @@
 -- `samples::passes::pass_down_even` meets its contract: the rows of the kernel are the rectangle. Assumes nothing.
-use mathlib.Core.Path.{_≡_, sym, ap, _∙_}
+use mathlib.Core.Path.{ap, _∙_}
 use Prim.Native.Nat.{ℕ, _+_, _-_, _*_, _≤_}
 use native.Mathlib.Nat.{zero-add}
 use native.Mathlib.Omega.{arith}
@@ -8,7 +8,7 @@ use lib.ListN.{length}
 use Rattle.base.proofs.Lift.{Start}
 use Rattle.base.proofs.Painted.{paint-same}
 use Rattle.kernels.specs.Taps.{tap}
-use Rattle.kernels.specs.Kernel.{ran, ranRows, Below, BelowRows}
+use Rattle.kernels.specs.Kernel.{ran, ranRows, BelowRows}
 use Rattle.samples.specs.Lifted.{downEven}
 use Rattle.samples.proofs.Bands.{holds-row}
 use Rattle.samples.proofs.Blocks.{below-even}

@@ -1,7 +1,7 @@
 -- `samples::passes::pass_even` meets its contract: rows of one band where nothing has to be held. Assumes nothing.
-use mathlib.Core.Path.{_≡_, sym, ap, _∙_}
+use mathlib.Core.Path.{_≡_, sym, _∙_}
 use mathlib.Core.Bool.{true}
-use Prim.Native.Nat.{ℕ, _+_, _-_, _*_, _/_, _≤_, _<_}
+use Prim.Native.Nat.{ℕ, _+_, _-_, _*_, _/_, _≤_}
 use native.Mathlib.Nat.{mul-le-mul, le-refl, sub-le}
 use native.Mathlib.Omega.{arith}
 use borrow.Author.Needs.{needs}
