@@ -152,7 +152,8 @@ axis-near t n f v s inside few hv =
     let wide = below-mul (cells *ℤ pos 8) 16 64 (le-trans (below-mul cells 8 8 (le-trans (cells-below t n f inside) few)) (omega arith)) in
     let deep = le-trans (below-shr (cells *ℤ pos 8 *ℤ pos 16) (2 ^ s)) wide in
     let high = add-below (shrZ (cells *ℤ pos 8 *ℤ pos 16) (2 ^ s)) ((4 + q) * 16 - 16) 1024 deep in
-    clip-kept (below (near -ℤ pos ((4 + q) * 16))) _ _ _ 65534 low (rw (far q) (omega (arith, high))) (omega (arith, abs-shr (pos 2 *ℤ v) (2 ^ s), abs-mul (pos 2) v))
+    clip-kept (below (near -ℤ pos ((4 + q) * 16))) _ _ _ 65534 low (rw (far q) (omega (arith, high)))
+    (omega (arith, abs-shr (pos 2 *ℤ v) (2 ^ s), abs-mul (pos 2) v))
 
 -- both ends of an axis are no negative numbers, and its first cell lies on it
 on-axis : (total first : ℤ) → onAxis total first ≡ true → (pos (toN total) ≡ total) × (pos (toN first) ≡ first) × (toN first ≤ toN total)

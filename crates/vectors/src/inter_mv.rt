@@ -83,7 +83,8 @@ fn clamp_refusal(grid: BlockGrid, v: Mv, plane: usize) -> u32
     ensures { λ r. ⌜ r ≡ answer (Clamp.clampRows grid v plane) ⌝ }
 {
     let block = (grid.mi_size <= 12) & (plane <= 2);
-    let place = motion::on_axis(grid.mi_rows, grid.mi_row) & motion::on_axis(grid.mi_cols, grid.mi_col);
+    let place = motion::on_axis(grid.mi_rows, grid.mi_row)
+        & motion::on_axis(grid.mi_cols, grid.mi_col);
     let vector = base::is_legal_mv(v);
     base::unless(
         base::BLOCK,
@@ -109,8 +110,10 @@ pub fn clamp_mv(grid: BlockGrid, mv: Mv, plane: usize, sx: bool, sy: bool) -> Cl
     }
     let high = motion::num_8x8_high(grid.mi_size as usize);
     let wide = motion::num_8x8_wide(grid.mi_size as usize);
-    let row = motion::clamp_axis(grid.mi_rows, high, grid.mi_row, mv.row, motion::shift(plane, sy));
-    let col = motion::clamp_axis(grid.mi_cols, wide, grid.mi_col, mv.col, motion::shift(plane, sx));
+    let down = motion::shift(plane, sy);
+    let row = motion::clamp_axis(grid.mi_rows, high, grid.mi_row, mv.row, down);
+    let across = motion::shift(plane, sx);
+    let col = motion::clamp_axis(grid.mi_cols, wide, grid.mi_col, mv.col, across);
     let held = PlaneMv { row, col };
     ClampedMv {
         answer: 0,
