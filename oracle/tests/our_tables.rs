@@ -47,7 +47,7 @@ fn constant(path: &str, name: &str) -> Vec<i32> {
 
 #[test]
 fn block_sizes() {
-    let specs = source("crates/vectors/specs/Sizes.antt");
+    let specs = source("crates/motion/specs/Sizes.antt");
     assert_eq!(
         signed(part(&specs, "highs =", "abbrev")),
         tables::block_heights()
@@ -57,11 +57,11 @@ fn block_sizes() {
         tables::block_widths()
     );
     assert_eq!(
-        constant("crates/vectors/src/partition.rt", "HIGH"),
+        constant("crates/motion/src/partition.rt", "HIGH"),
         tables::block_heights()
     );
     assert_eq!(
-        constant("crates/vectors/src/partition.rt", "WIDE"),
+        constant("crates/motion/src/partition.rt", "WIDE"),
         tables::block_widths()
     );
 }

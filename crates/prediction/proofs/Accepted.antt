@@ -26,9 +26,11 @@ use Rattle.vectors.specs.BlockMvs.{legalList, legalBlock}
 use Rattle.vectors.specs.Select.{selectMv, selectRows, chosen, allFour, listOf, partnered}
 use Rattle.vectors.specs.Clamp.{clampMv, clampRows, onAxis}
 use Rattle.vectors.specs.Scale.{scaleMv, scaleRows, placed, stepAxis}
-use Rattle.vectors.proofs.Near.{chosen-legal, clamped-legal, abs-between}
-use Rattle.vectors.proofs.Scaled.{start-near, step-in}
-use Rattle.vectors.proofs.Accepted.{scale-ok, placed-small}
+use Rattle.motion.proofs.Near.{chosen-legal, abs-between}
+use Rattle.motion.proofs.Scaled.{start-near, step-in}
+use Rattle.motion.proofs.Tested.{placed-small}
+use Rattle.vectors.proofs.Near.{clamped-legal}
+use Rattle.vectors.proofs.Accepted.{scale-ok}
 use Rattle.samples.specs.Plane.{sized, fits, holds}
 use Rattle.samples.specs.Call as Call
 use Rattle.samples.specs.Call.{Call, call, ref, also, kind, starts, outFits, value}

@@ -18,7 +18,7 @@ use Rattle.vectors.specs.BlockMvs.{legalList, legalBlock}
 use Rattle.vectors.specs.Select.{selectMv}
 use Rattle.vectors.specs.Clamp.{clampMv, onAxis}
 use Rattle.vectors.specs.Scale.{scaleMv, usable, placed}
-use Rattle.vectors.proofs.Accepted.{usable-sizes}
+use Rattle.motion.proofs.Tested.{usable-sizes}
 use Rattle.samples.specs.Plane.{lent, sized, fits}
 use Rattle.samples.specs.Call as Call
 use Rattle.samples.specs.Call.{also}

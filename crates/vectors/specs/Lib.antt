@@ -1,5 +1,4 @@
 pub mod BlockMvs
-pub mod Sizes
 pub mod Select
 pub mod Clamp
 pub mod Scale

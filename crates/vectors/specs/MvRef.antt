@@ -3,11 +3,11 @@ use Prim.Native.Nat.{ℕ}
 use mathlib.Core.Bool.{Bool, _&&_, cond}
 use mathlib.Core.List.{List, [], _∷_}
 use lib.Dec.{leb, ltb, eqb}
-use lib.IntN.{ℤ, pos, negsuc, natAbs, _+ℤ_, _-ℤ_, _*ℤ_}
+use lib.IntN.{ℤ, pos, negsuc, natAbs, _*ℤ_}
 use lib.ListN.{getD}
 use lib.Signed.{quotZ}
 use Rattle.base.specs.Answer.{Row, row, answer, BLOCK, GRID, TARGET, SHORT, RECORD, VECTOR}
-use Rattle.base.specs.Number.{between, clip3}
+use Rattle.base.specs.Number.{between}
 use Rattle.base.specs.Vector.{eighth, mv, zeroMv, legalMv}
 use Rattle.base.specs.declared.units.Eighth.{Eighth}
 use Rattle.base.specs.declared.units.Mv.{Mv}
@@ -17,16 +17,12 @@ use Rattle.candidates.specs.Offers.{none, offers}
 use Rattle.candidates.specs.Search.{candidates, context}
 use Rattle.candidates.specs.declared.geometry.MvRefGeometry.{MvRefGeometry}
 use Rattle.candidates.specs.declared.held.Held.{Held}
-use Rattle.vectors.specs.Sizes.{high, wide}
+use Rattle.motion.specs.Sizes.{high, wide}
 use Rattle.vectors.specs.declared.mv_ref.MvRefs.{MvRefs}
 use Rattle.vectors.specs.declared.mv_ref.MvPair.{MvPair}
+unfoldable pub use Rattle.motion.specs.Border.{clampPart}
 
 -- ---- the clamp of this file, one definition over the border
-
--- "low = -64 x mi_row - border; high = 64 x (mi_rows - height - mi_row) + border, columns alike. Test below low first, then above high"
-unfoldable pub clampPart : ℤ → ℤ → ℤ → ℤ → ℤ → ℤ
-clampPart border total n first v =
-    clip3 (pos 0 -ℤ pos 64 *ℤ first -ℤ border) (pos 64 *ℤ (total -ℤ n -ℤ first) +ℤ border) v
 
 unfoldable pub clampRef : ℤ → MvRefGeometry → Mv → Mv
 clampRef border g v =

@@ -1,8 +1,6 @@
 // Motion vectors: where a block looks, from the candidates of its neighbours to the position and the step in the reference.
-mod block_mvs;
 mod inter_mv;
 mod mv_ref;
-mod partition;
 
 pub use inter_mv::BlockGrid;
 pub use inter_mv::ClampedMv;

@@ -44,26 +44,14 @@ fn zero_mv() -> Mv
 
 // ---- the clamp, 6.5.3 to 6.5.5
 
-fn clamp_part(border: i32, total: i32, n: i32, first: i32, v: Eighth) -> Eighth
-    requires { ⌜ (natAbs border ≤ 1248) × (natAbs total ≤ 8192) ⌝ }
-    requires { ⌜ (natAbs n ≤ 8) × (natAbs first ≤ 8192) ⌝ }
-    ensures { λ r. ⌜ r ≡ Vector.eighth (MvRef.clampPart border total n first (v .0)) ⌝ }
-{
-    Eighth(base::clip3(
-        0 - 64 * first - border,
-        64 * (total - n - first) + border,
-        v.0,
-    ))
-}
-
 fn clamp_ref(border: i32, g: MvRefGeometry, v: Mv) -> Mv
     requires { ⌜ (natAbs border ≤ 1248) × (g .«mi_size» ≤ 12) × (Tables.gridOk g ≡ true) ⌝ }
     ensures { λ r. ⌜ r ≡ MvRef.clampRef border g v ⌝ }
 {
-    let high = crate::partition::num_8x8_high(g.mi_size);
-    let wide = crate::partition::num_8x8_wide(g.mi_size);
-    let row = clamp_part(border, g.mi_rows, high, g.mi_row, v.row);
-    let col = clamp_part(border, g.mi_cols, wide, g.mi_col, v.col);
+    let high = motion::num_8x8_high(g.mi_size);
+    let wide = motion::num_8x8_wide(g.mi_size);
+    let row = motion::clamp_part(border, g.mi_rows, high, g.mi_row, v.row);
+    let col = motion::clamp_part(border, g.mi_cols, wide, g.mi_col, v.col);
     Mv { row, col }
 }
 

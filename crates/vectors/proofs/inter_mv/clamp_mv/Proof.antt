@@ -6,7 +6,8 @@ use Rattle.base.specs.Answer.{answer}
 use Rattle.base.proofs.Legal.{legal-row, legal-col}
 use Rattle.base.proofs.Bd.{Bd, bd, rd}
 use Rattle.vectors.specs.Clamp.{clampMv, clampRows}
-use Rattle.vectors.proofs.Accepted.{ClampOk, clamp-ok, axis-small}
+use Rattle.motion.proofs.Tested.{axis-small}
+use Rattle.vectors.proofs.Accepted.{ClampOk, clamp-ok}
 use borrow.Author.Needs.{needs}
 use Rattle.vectors.proofs.inter_mv.clamp_mv.Statement.{statement}
 use Rattle.vectors.proofs.inter_mv.clamp_mv.Tie as tie

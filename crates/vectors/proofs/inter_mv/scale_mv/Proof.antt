@@ -6,7 +6,8 @@ use mir.Facts.{toZ-ofZ}
 use Rattle.base.specs.Answer.{answer}
 use Rattle.base.proofs.Bd.{Bd, rd}
 use Rattle.vectors.specs.Scale.{scaleMv, scaleRows}
-use Rattle.vectors.proofs.Accepted.{ScaleOk, scale-ok, usable-bd}
+use Rattle.motion.proofs.Tested.{usable-bd}
+use Rattle.vectors.proofs.Accepted.{ScaleOk, scale-ok}
 use borrow.Author.Needs.{needs}
 use Rattle.vectors.proofs.inter_mv.scale_mv.Statement.{statement}
 use Rattle.vectors.proofs.inter_mv.scale_mv.Tie as tie

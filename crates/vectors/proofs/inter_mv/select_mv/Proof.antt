@@ -4,7 +4,7 @@ use borrow.Author.Tests.{ne-eqb}
 use Rattle.base.specs.Answer.{answer}
 use Rattle.vectors.specs.Select.{selectMv, selectRows}
 use Rattle.vectors.proofs.Accepted.{SelectOk, select-ok}
-use Rattle.vectors.proofs.Parts.{legal-list, listOf-small}
+use Rattle.motion.proofs.Parts.{legal-list, listOf-small}
 use borrow.Author.Needs.{needs}
 use Rattle.vectors.proofs.inter_mv.select_mv.Statement.{statement}
 use Rattle.vectors.proofs.inter_mv.select_mv.Tie as tie
