@@ -13,23 +13,13 @@ import textwrap
 
 CRATE = "views"
 ROOT = "crates/views/proofs"
-WIDTH = 158
+WIDTH = 152
 
 
 # ---- text
 
 def tup(xs):
-    out = "tt"
-    for x in reversed(list(xs)):
-        out = f"({x}, {out})"
-    return out
-
-
-def prod(xs):
-    out = "Unit {0}"
-    for x in reversed(list(xs)):
-        out = f"({x} × {out})"
-    return out
+    return "(" + " ▹ ".join(list(xs) + ["tt"]) + ")"
 
 
 def seq(xs):
@@ -44,9 +34,26 @@ def sub(i):
     return "".join("₀₁₂₃₄₅₆₇₈₉"[int(c)] for c in str(i))
 
 
+def fill(text, first, rest):
+    return textwrap.fill(text, WIDTH, initial_indent=first, subsequent_indent=rest, break_long_words=False, break_on_hyphens=False).split("\n")
+
+
 def wrap(text, indent):
-    """A paragraph: broken at spaces, its lines indented alike."""
-    return textwrap.fill(text, WIDTH, initial_indent=" " * indent, subsequent_indent=" " * indent, break_long_words=False, break_on_hyphens=False) + "\n"
+    """A paragraph, its lines indented alike: broken after a step if it can be, else at a space."""
+    pad, lines = " " * indent, []
+    for step in re.split(r"(?<= \$) ", text):
+        if lines and len(lines[-1]) + 1 + len(step) <= WIDTH:
+            lines[-1] += " " + step
+        else:
+            lines += fill(step, pad, pad)
+    return "\n".join(lines) + "\n"
+
+
+def block(text, indent):
+    """A declaration's head: its first line at the indent, the rest further in, broken between parameters if it can be."""
+    keep = lambda m: m.group(0).replace(" ", "\u00a0")
+    text = re.sub(r"\((?:[^()]|\((?:[^()]|\((?:[^()]|\([^()]*\))*\))*\))*\)", keep, text)
+    return "\n".join(fill(text, " " * indent, " " * (indent + 4))).replace("\u00a0", " ") + "\n"
 
 
 def decl(indent, name, type_, body, note=None, mark="abbrev "):
@@ -208,9 +215,9 @@ class Ctx:
             self.step(f"move ! {seq(map(str, places))} $")
         self.names = list(wanted) + [n for n in self.names if n not in wanted]
 
-    def fsplit(self, first, rest):
-        self.step("fsplit ! $")
-        self.names[:1] = [first, rest]
+    def aside(self, name):
+        self.step("aside ! $")
+        self.names[1:1] = [name]
 
     def drop(self):
         self.step("drop ! $")
@@ -220,18 +227,13 @@ class Ctx:
         self.step("nothing ! $")
         self.names = [name] + self.names
 
-    def fjoin(self, name):
-        self.step("fjoin ! $")
-        self.names[:2] = [name]
-
     def parts(self, ps):
         """A list of what is owned, at the head: what is held stays by name, plain data is let go."""
         for p in ps:
-            self.fsplit(p.name, "rest")
             if p.kind.held:
-                self.front("rest")
+                self.aside(p.name)
             else:
-                self.drop()
+                self.step("without ! $")
         self.drop()
 
     def twice(self, p):
@@ -248,11 +250,9 @@ class Ctx:
                 i = self.names.index(p.name, 1)
                 self.step(f"move ! ({i} ∷ 0 ∷ []) $")
                 del self.names[i]
-                self.names = [p.name] + self.names
+                self.step("fjoin ! $")
             else:
-                self.step(f"owned ! {p.kind.row} (Is {p.kind.row}) {p.kind.makes} {p.name} _ {p.is_} $")
-                self.names = [p.name] + self.names
-            self.fjoin("list")
+                self.step(f"fresh ! {p.kind.row} {p.kind.makes} {p.name} {p.is_} $")
 
     def text(self):
         return " ".join(self.out)
@@ -296,7 +296,7 @@ class Walk:
     def header(self, what):
         out = f"-- `{CRATE}::{self.path.replace('.', '::')}` meets its contract: {what}\n"
         out += "-- Written by tools/walks/views.py: an edit of the function or of its callee's contract wants it written anew. Assumes nothing.\n"
-        lines = kit_uses() + self.specs
+        lines = ["KIT"] + self.specs
         seen = []
         for p in self.ps + [P("", self.view)] + ([P("", self.view.size)] if self.callees and self.view.size else []):
             if hasattr(p.kind, "uses"):
@@ -321,8 +321,8 @@ class Walk:
         tele = f"({names[0]} : Lft) ({names[1]} : Share) " + " ".join(f"({p.name} : {p.kind.denot})" for p in self.ps)
         out = block(f"module _ {GIVEN} {tele} where", 0)
         out += decl(2, "κs", f"Lfts {self.n}", tup(f"κ{sub(i)}" for i in range(self.n)))
-        out += decl(2, "a", prod(p.kind.denot for p in self.ps), tup(p.name for p in self.ps))
-        out += decl(2, "vals", prod("List Val" for p in self.ps), tup(p.val() + " ∷ []" for p in self.ps))
+        out += decl(2, "a", "Args me.signature κs", tup(p.name for p in self.ps))
+        out += decl(2, "vals", "Vals me.signature κs", tup(p.val() + " ∷ []" for p in self.ps))
         out += decl(2, "entry", "SProp 𝓤", f"onEntry 𝓤 H A me.signature κs {self.qs} a vals", "what the function has when it starts, and what it owes")
         out += decl(2, "Post", "Val → SProp 𝓤", f"walkOf 𝓤 H A me.ended stayed (me.clauses 𝓤 H A mem run) .post {self.ghost}")
         return out
@@ -399,7 +399,7 @@ unfolding code.routine tablesOf
         r, e = self.r, callee.alias
         return [f"(λ u. use1 W (later (some (λ (r : {r.kind.denot}). ({tokens(range(self.n))} ⊛ ‵ ({r.kind.row} .own r (u ∷ []))) ⊛"
                 f" raw (ensured 𝓤 H A {e}.ended ({e}.clauses 𝓤 H A mem run) κs ca tt r)))) (id⊢ 𝓤 _) $ await ! tt $ pick ! (λ r.",
-                f"split ! $ move ! (1 ∷ []) $ use1 W (some (λ (ws : {lasts_type(cps)}). ‵ (lasts {e}.ended κs ca ws) ⊛ raw (fact 𝓤 (Said r ws))))"
+                f"split ! $ move ! (1 ∷ []) $ use1 W (some (λ (ws : Lasts {e}.ended κs ca). ‵ (lasts {e}.ended κs ca ws) ⊛ raw (fact 𝓤 (Said r ws))))"
                 " (id⊢ 𝓤 _) $ pick ! (λ ws. split ! $ move ! (1 ∷ []) $ heard ! (Said r ws) (λ e. move ! (1 ∷ []) $ split ! $ move ! (1 ∷ []) $",
                 f"peeks ! {r.kind.row} (Is {r.kind.row}) (shows 𝓤 H A {r.kind.row}) r (u ∷ []) (λ is.",
                 f"land ! (from ! (stop !)) (init ! {self.place(0, shift)} refl ({r.kind.lawful} .typed r _ is .0)) $ returns ! (look ! {self.place(0, shift)} refl) $",
@@ -421,18 +421,17 @@ unfolding code.routine tablesOf
         x.front("lasts")
         closers = 0
         for p in cps:
-            x.fsplit(p.name, "lasts")
             if isinstance(p.kind, MutSlice):
-                x.fsplit(p.name, "long")
-                x.front("long")
+                x.step("fsplit ! $ aside ! $")
+                x.names[:1] = ["long", p.name, "lasts"]
                 x.step(f"feqL ! (λ {p.name}-long.")
                 x.names = x.names[1:]
                 closers += 1
                 x.front("lasts")
             elif isinstance(p.kind, MutNum):
-                x.front("lasts")
+                x.aside(p.name)
             else:
-                x.drop()
+                x.step("without ! $")
         x.drop()
         last = lambda p: at("ws", [c.name for c in cps].index(p.name))
         lasts = tup(last(p) if p.mutable() else "tt" for p in self.ps)
@@ -445,49 +444,41 @@ unfolding code.routine tablesOf
         for p in reversed(self.ps):
             if p.mutable():
                 x.front(p.name, "had")
+                x.step("fjoin ! $")
+                x.names[:2] = ["had"]
             else:
-                x.nothing(p.name)
-            x.fjoin("had")
+                x.step("none ! $")
         x.front("had", "result")
         out = "    -- what the callee ensures, with what it left, is what is owed\n"
-        out += block(f"exits : (r : {r.kind.denot}) (u : Val) (ws : {lasts_type(cps)}) → Said r ws → ent 𝓤 (⋆ 𝓤 H A {have}) (Post u)", 4)
+        out += block(f"exits : (r : {r.kind.denot}) (u : Val) (ws : Lasts {callee.alias}.ended κs ca) → Said r ws → ent 𝓤 (⋆ 𝓤 H A {have}) (Post u)", 4)
         out += "    exits r u ws e =\n" + wrap(f"qed W {have} ∵", 8) + wrap(f"{x.text()} done !" + ")" * closers, 8) + "\n"
         return out
 
     def write(self, text):
         folder = os.path.join(ROOT, *self.path.split("."))
         os.makedirs(folder, exist_ok=True)
+        text = text.replace("KIT\n", "\n".join(shared(text)) + "\n", 1)
         with open(os.path.join(folder, "Proof.antt"), "w") as f:
             f.write(text)
         print(self.path, text.count("\n"), "lines")
 
 
-def block(text, indent):
-    """A declaration's head: its first line at the indent, the rest further in."""
-    return textwrap.fill(text, WIDTH, initial_indent=" " * indent, subsequent_indent=" " * (indent + 4), break_long_words=False, break_on_hyphens=False) + "\n"
-
-
-def lasts_type(ps):
-    return prod({MutSlice: "List ℕ", MutNum: "ℕ"}.get(type(p.kind), "Unit {0}") for p in ps)
-
-
-def kit_uses():
-    """The names that proofs/Kit.antt passes on."""
-    names, modules = [], []
-    for line in open(os.path.join(ROOT, "Kit.antt")):
-        m = re.match(r"(?:unfoldable )?pub use \S+\.\{(.*)\}$", line.strip())
-        if m:
-            names += [n.strip() for n in m.group(1).split(",")]
-        elif line.startswith("pub use "):
-            modules.append(line.split(" as ")[1].strip())
-    kit = "Rattle.views.proofs.Kit"
-    lines, group = [], []
-    for n in names:
-        if len(f"use {kit}.{{{', '.join(group + [n])}}}") > WIDTH:
-            lines.append(f"use {kit}.{{{', '.join(group)}}}")
-            group = []
-        group.append(n)
-    return lines + [f"use {kit}.{{{', '.join(group)}}}"] + [f"use {kit}.{m}" for m in modules]
+def shared(body):
+    """The names of proofs/Kit.antt and proofs/Steps.antt that a walk uses."""
+    words, lines = set(re.split(r"[\s(){},;]+", body)), []
+    words |= {f"_{w}_" for w in words}
+    for module in ("Kit", "Steps"):
+        path = f"Rattle.{CRATE}.proofs.{module}"
+        text, group = open(os.path.join(ROOT, module + ".antt")).read(), []
+        names = re.findall(r"^ *(?:abbrev )?pub (\S+) .*:", text, re.M) if module == "Steps" else \
+            [n.strip() for names in re.findall(r"pub use \S+\.\{(.*)\}", text) for n in names.split(",")]
+        for name in [n for n in names if n in words]:
+            if len(f"use {path}.{{{', '.join(group + [name])}}}") > WIDTH:
+                lines.append(f"use {path}.{{{', '.join(group)}}}")
+                group = []
+            group.append(name)
+        lines.append(f"use {path}.{{{', '.join(group)}}}")
+    return lines + [f"use Rattle.{CRATE}.proofs.Kit.LL"]
 
 
 # ---- the three shapes
@@ -504,17 +495,14 @@ def made(path, view):
     x.names = ["owns"]
     x.parts(ps)
     x.nothing("had")
-    for p in ps:
-        x.nothing(p.name + " had")
-        x.fjoin("had")
-    x.step("frame ! $")
+    x.step("none ! $ " * len(ps) + "frame ! $")
     x.names = x.names[1:]
     x.list_of(ps)
     out += "    -- what the fields own is what the view owns\n"
     out += "    exits : ent 𝓤 entry (Post (T′.lowered made))\n    exits =\n" + wrap(f"qed W {w.entry()} ∵", 8)
     out += wrap(f"suffices ! _ (ends-at 𝓤 H A me.ended stayed (me.clauses 𝓤 H A mem run) W {w.ghost} (T′.lowered made) made"
                 f" {tup('tt' for _ in ps)} {tup('tt' for _ in ps)}) $ says ! refl $", 8)
-    out += wrap(f"{x.text()} by ! (own-shut 𝓤 H A W (T.the-type (α κs)) (T′.the-laws (α κs)) {tup(p.name for p in ps)})", 8) + "\n"
+    out += wrap(f"{x.text()} by ! (own-shut 𝓤 H A W (T.the-type (α κs)) (T′.the-laws (α κs)) (T.struct (α κs) .as-values made))", 8) + "\n"
     n = 1 + len(ps)
     lines = w.enter(n)
     lines += [f"assigns ! (agg ! {w.operands([w.place(j) for j in range(1, n)])}) (from ! (stop !)) (init ! {w.place(0)} refl (tt,"
@@ -541,9 +529,9 @@ def apart(path, view, lifetimes, params, callee, sizes, args, result, specs, sai
     out = w.header("it takes the view apart and asks the call below.") + w.section()
     for v in views:
         out += decl(2, f"{v.name}-size", view.size.name, "record { " + "; ".join(f"{view.fields[i][0]} = {field(v.name, i).name}" for i in sized) + " }")
-    out += decl(2, "ca", prod(p.kind.denot for p in cps), tup(p.name for p in cps), "what is handed down")
+    out += decl(2, "ca", f"Args {callee.alias}.signature κs", tup(p.name for p in cps), "what is handed down")
     out += decl(2, "to", f"{callee.contract()} .Ghost", f"((κs, {w.qs}, tt, ca, {tup(p.val() + ' ∷ []' for p in cps)}), tt)")
-    out += decl(2, "Said", f"{w.r.kind.denot} → {lasts_type(cps)} → Type 0", said, "what the callee ensures, at the view").replace("Said =", "Said r ws =")
+    out += decl(2, "Said", f"{w.r.kind.denot} → Lasts {callee.alias}.ended κs ca → Type 0", said, "what the callee ensures, at the view").replace("Said =", "Said r ws =")
     out += w.relations()
 
     x = Ctx(["tokens", "owns"])
@@ -551,10 +539,7 @@ def apart(path, view, lifetimes, params, callee, sizes, args, result, specs, sai
     x.parts(params)
     for v in views:
         x.front(v.name)
-        vs = tup(f"{v.name} .{f}" for f, _ in view.fields)
-        laws = "(T.the-type (α κs)) (T′.the-laws (α κs))"
-        x.step(f"use1 W (given ({v.val()} ∷ [] ≡ {v.val()} ∷ []) (‵ (all-own (T.the-type (α κs) .parts) (T′.the-laws (α κs)) {vs})))"
-               f" (own-open 𝓤 H A W {laws} {vs} {v.val()}) $ learn ! (λ _.")
+        x.step(f"opened ! (T.the-type (α κs)) (T′.the-laws (α κs)) (T.struct (α κs) .as-values {v.name}) $")
         x.parts([field(v.name, i) for i in range(len(view.fields))])
     for v in views:
         for i, (_, k) in enumerate(view.fields):
@@ -563,11 +548,11 @@ def apart(path, view, lifetimes, params, callee, sizes, args, result, specs, sai
                     x.twice(field(v.name, i))
     x.list_of(cps)
     x.front("tokens", "list")
-    x.step("join ! $ frame ! $ done !" + ")" * len(views))
-    lets = "".join(f"let {v.name}-fields = LL.owed (T.the-type (α κs)) (T′.the-laws (α κs)) {v.name} _ {v.is_} in " for v in views)
+    x.step("join ! $ frame ! $ done !")
+    lets = [f"let {v.name}-fields = LL.owed (T.the-type (α κs)) (T′.the-laws (α κs)) {v.name} _ {v.is_} in" for v in views]
     out += "    -- what the view and the other parameters own is what the callee asks\n"
     out += f"    asked : ent 𝓤 entry ({callee.contract()} .pre to)\n    asked =\n"
-    out += wrap(lets, 8) + wrap(f"qed W {w.entry()} ∵", 8) + wrap(x.text(), 8) + "\n"
+    out += "".join(wrap(t, 8) for t in lets) + wrap(f"qed W {w.entry()} ∵", 8) + wrap(x.text(), 8) + "\n"
     out += w.exits(callee, cps)
 
     # locals: the result, the parameters, the sizes, then what the operands want in their order
@@ -593,7 +578,8 @@ def apart(path, view, lifetimes, params, callee, sizes, args, result, specs, sai
             places.append(nxt)
             nxt += 1
     lines = w.enter(nxt)
-    typed = lambda v, i: f"{view.lawful} .typed {v} _ {named[v].is_} .0 .1{' .1' * i} .0"
+    lines[:0] = [f"let {v.name}-typed = {view.lawful} .typed {v.name} _ {v.is_} .0 .1 in" for v in views]
+    typed = lambda v, i: at(f"{v}-typed", i)
     copy = lambda v, i, to: (f"assigns ! (of-opd ! (load ! (from ! (fld ! refl (stop !))) (look-in ! {w.place(index[v])} (sub ! {i} refl (whole !)))))"
                              f" (from ! (stop !)) (init ! {w.place(to)} refl (tt, {typed(v, i)})) $")
     for v, to, parts in copied:
@@ -627,11 +613,11 @@ def above(path, view, lifetimes, params, new, callee, rest, result, specs, said)
     out = w.header("it makes a view in a local and passes it on.") + w.section()
     out += decl(2, "made", view.name, "record { " + "; ".join(f"{f} = {p.name}" for (f, _), p in zip(view.fields, group)) + " }")
     out += decl(2, "αᵉ", "NamedLft", "record { mir = erased; lft = κ₀ }", "the lifetime of a local that holds the view")
-    out += decl(2, "na", prod(p.kind.denot for p in group), tup(p.name for p in group), "what is handed to `new`, and to the call")
-    out += decl(2, "to-new", f"{new.contract()} .Ghost", f"(((κ₀, tt), (q₀, tt), tt, na, {tup(p.val() + ' ∷ []' for p in group)}), tt)")
-    out += decl(2, "ca", prod(p.kind.denot for p in cps), tup(p.name for p in cps))
+    out += decl(2, "na", f"Args {new.alias}.signature (κ₀ ▹ tt)", tup(p.name for p in group), "what is handed to `new`, and to the call")
+    out += decl(2, "to-new", f"{new.contract()} .Ghost", f"((κ₀ ▹ tt, q₀ ▹ tt, tt, na, {tup(p.val() + ' ∷ []' for p in group)}), tt)")
+    out += decl(2, "ca", f"Args {callee.alias}.signature κs", tup(p.name for p in cps))
     out += decl(2, "to", f"Val → {callee.contract()} .Ghost", f"((κs, {w.qs}, tt, ca, {handed('v')}), tt)").replace("to =", "to v =")
-    out += decl(2, "Said", f"{w.r.kind.denot} → {lasts_type(cps)} → Type 0", said, "what the callee ensures, at what the view was made of")\
+    out += decl(2, "Said", f"{w.r.kind.denot} → Lasts {callee.alias}.ended κs ca → Type 0", said, "what the callee ensures, at what the view was made of")\
         .replace("Said =", "Said r ws =")
     others = tokens(range(1, w.n))
     items = [("others", others)] + [(p.name, f"‵ ({p.own()})") for p in lent]
@@ -694,8 +680,8 @@ def above(path, view, lifetimes, params, new, callee, rest, result, specs, said)
               f"move ! ({2 * nxt} ∷ []) $ use1 W (raw ({new.contract()} .pre to-new) ⊛ raw kept) makes-it $ split ! $",
               f"calls-at ! fm ({new.contract()}) known-{e} to-new {w.operands([w.place(index[p.name], 2) for p in group])} (λ v.",
               f"use1 W (later (some (λ (h : {view.name}). ({tokens([0])} ⊛ ‵ ({view.row} .own h (v ∷ []))) ⊛"
-              f" raw (ensured 𝓤 H A {e}.ended ({e}.clauses 𝓤 H A mem run) (κ₀, tt) na tt h)))) (id⊢ 𝓤 _) $ await ! tt $ pick ! (λ h.",
-              f"split ! $ move ! (1 ∷ []) $ use1 W (some (λ (ws : {lasts_type(group)}). ‵ (lasts {e}.ended (κ₀, tt) na ws) ⊛ raw (fact 𝓤 (h ≡ made))))"
+              f" raw (ensured 𝓤 H A {e}.ended ({e}.clauses 𝓤 H A mem run) (κ₀ ▹ tt) na tt h)))) (id⊢ 𝓤 _) $ await ! tt $ pick ! (λ h.",
+              f"split ! $ move ! (1 ∷ []) $ use1 W (some (λ (ws : Lasts {e}.ended (κ₀ ▹ tt) na). ‵ (lasts {e}.ended (κ₀ ▹ tt) na ws) ⊛ raw (fact 𝓤 (h ≡ made))))"
               " (id⊢ 𝓤 _) $ pick ! (λ ws₀. split ! $ move ! (1 ∷ []) $ heard ! (h ≡ made) (λ e₀. drop ! $ split ! $",
               f"rewrite ! 1 (λ (h : {view.name}). ‵ ({view.row} .own h (v ∷ []))) e₀ refl $ move ! (1 ∷ []) $",
               f"peeks ! {view.row} (Is {view.row}) (shows 𝓤 H A {view.row}) made (v ∷ []) (λ made-is.",

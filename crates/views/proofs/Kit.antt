@@ -35,10 +35,10 @@ pub use denote.Struct.Laws as LL
 pub use denote.Struct.Rest.{all-own, own-open, own-shut}
 pub use denote.Triple.Statement.{Contract, Triple}
 pub use denote.Triple.Call.{calls-at}
-pub use denote.Triple.Entry.{onEntry}
+pub use denote.Triple.Entry.{Args, Vals, onEntry}
 pub use denote.Triple.Spec.{Meets, tripleOf}
 pub use denote.Triple.Table.{entered, cited}
 pub use denote.Triple.Walked.{says, Stays, stay-dropped, gave-slice, gave-ref, walkOf, goes-dropped, goes-gave-slice, goes-gave-ref, Walks}
 pub use denote.Triple.Walked.{ends-at, walked, walk-meets}
 pub use denote.Exit.{yes}
-pub use denote.Triple.Clauses.{ensured, lasts}
+pub use denote.Triple.Clauses.{Lasts, ensured, lasts}

@@ -1,16 +1,14 @@
 -- `views::ref_plane::RefPlane::new` meets its contract: the fields are put together.
 -- Written by tools/walks/views.py: an edit of the function or of its callee's contract wants it written anew. Assumes nothing.
-use Rattle.views.proofs.Kit.{_≡_, refl, ℕ, List, [], _∷_, ℤ, length, URA, named, erased, w32, w64, Val, vint, vptr, ofZ, SProp, ent, sep, emp, via}
-use Rattle.views.proofs.Kit.{fst∗, id⊢, Lft, Share, ftrue, flft, Memory, Routine, Heap, Calls, Loops, WpFn, Tables, Atoms, Lfts, Fun, fact, givenOf}
-use Rattle.views.proofs.Kit.{tables, tablesOf, Given, ‵, raw, _⊛_, given, ⋆, some, later, _$_, _∵_, !, qed, by, move, drop, use1, use2, use3, split}
-use Rattle.views.proofs.Kit.{join, learn, pick, rewrite, fsplit, fjoin, feqL, suffices, frame, await, done, agg, whole, sub, look-in, look, init}
-use Rattle.views.proofs.Kit.{forget, stop, hop, fld, from, load, addr, of-opd, and-then, no-more, assigns, land, returns, enter, alloc1, alloc0}
-use Rattle.views.proofs.Kit.{params1, pass1, pass0, free1, free0, FmC, fmOf, WpFn-mono, owns, Is, shows, uint-makes, uint-vals, uint-tells}
-use Rattle.views.proofs.Kit.{uint-lawful, sint-makes, sint-vals, sint-tells, sint-lawful, u16, u32, usize, i32, RefT, NamedLft, MutRef, ptr-vals}
-use Rattle.views.proofs.Kit.{mut-tells, mut-lawful, now, plain, namedLft, shrSliceOf, sliceVal, MutSlice, ShrSlice, slice-vals, shr-slice-tells}
-use Rattle.views.proofs.Kit.{shr-slice-lawful, shr-slice-copy, mut-slice-tells, mut-slice-lawful, owned, peeks, heard, nothing, all-own, own-open}
-use Rattle.views.proofs.Kit.{own-shut, Contract, Triple, calls-at, onEntry, Meets, tripleOf, entered, cited, says, Stays, stay-dropped, gave-slice}
-use Rattle.views.proofs.Kit.{gave-ref, walkOf, goes-dropped, goes-gave-slice, goes-gave-ref, Walks, ends-at, walked, walk-meets, yes, ensured, lasts}
+use Rattle.views.proofs.Kit.{refl, ℕ, List, [], _∷_, ℤ, length, URA, named, w32, w64, Val, vint, ofZ, SProp, ent, emp, via, fst∗, Lft, Share}
+use Rattle.views.proofs.Kit.{ftrue, flft, Memory, Routine, Heap, Calls, Loops, WpFn, Tables, Atoms, Lfts, Fun, givenOf, tables, tablesOf, Given}
+use Rattle.views.proofs.Kit.{‵, raw, _⊛_, _$_, _∵_, !, qed, by, move, drop, fjoin, suffices, frame, agg, look, init, forget, stop, from, load}
+use Rattle.views.proofs.Kit.{and-then, no-more, assigns, returns, enter, alloc1, alloc0, params1, pass1, pass0, free1, free0, WpFn-mono, owns}
+use Rattle.views.proofs.Kit.{Is, uint-makes, uint-vals, uint-tells, uint-lawful, sint-makes, sint-vals, sint-tells, sint-lawful, u16, usize, i32}
+use Rattle.views.proofs.Kit.{RefT, NamedLft, plain, namedLft, shrSliceOf, sliceVal, ShrSlice, slice-vals, shr-slice-tells, shr-slice-lawful}
+use Rattle.views.proofs.Kit.{nothing, own-shut, Args, Vals, onEntry, Meets, tripleOf, entered, says, Stays, stay-dropped, walkOf, goes-dropped}
+use Rattle.views.proofs.Kit.{Walks, ends-at, walked, walk-meets, yes}
+use Rattle.views.proofs.Steps.{_▹_, without, aside, none, fresh}
 use Rattle.views.proofs.Kit.LL
 use Rattle.views.specs.declared.ref_plane.RefPlane.{RefPlane}
 use Rattle.views.proofs.ref_plane.RefPlane as T
@@ -26,78 +24,56 @@ abbrev α : Lfts 1 → NamedLft
 
 -- what is had of each parameter when the function returns: of what it was lent to write, the last value; of the rest, nothing
 abbrev stayed : Stays (me.ended .signature .params) (me.ended .kept)
-stayed = (stay-dropped _ yes, (stay-dropped _ yes, (stay-dropped _ yes, (stay-dropped _ yes, (stay-dropped _ yes, (stay-dropped _ yes, tt))))))
+stayed = (stay-dropped _ yes ▹ stay-dropped _ yes ▹ stay-dropped _ yes ▹ stay-dropped _ yes ▹ stay-dropped _ yes ▹ stay-dropped _ yes ▹ tt)
 
-module _ {M : Type 1} (𝓤 : URA M) (H : Heap 𝓤) (A : Atoms 𝓤) (W : Given 𝓤 H A) (mem : Memory → SProp 𝓤) (run : Routine → Fun 𝓤) (κ₀ : Lft) (q₀ : Share) (upper
-    : RefT (List ℕ)) (lower : RefT (List ℕ)) (width : ℤ) (height : ℤ) (stride : ℕ) (upper-rows : ℕ) where
+module _ {M : Type 1} (𝓤 : URA M) (H : Heap 𝓤) (A : Atoms 𝓤) (W : Given 𝓤 H A) (mem : Memory → SProp 𝓤) (run : Routine → Fun 𝓤) (κ₀ : Lft) (q₀ : Share)
+    (upper : RefT (List ℕ)) (lower : RefT (List ℕ)) (width : ℤ) (height : ℤ) (stride : ℕ) (upper-rows : ℕ) where
   abbrev κs : Lfts 1
-  κs = (κ₀, tt)
+  κs = (κ₀ ▹ tt)
 
-  abbrev a : (RefT (List ℕ) × (RefT (List ℕ) × (ℤ × (ℤ × (ℕ × (ℕ × Unit {0}))))))
-  a = (upper, (lower, (width, (height, (stride, (upper-rows, tt))))))
+  abbrev a : Args me.signature κs
+  a = (upper ▹ lower ▹ width ▹ height ▹ stride ▹ upper-rows ▹ tt)
 
-  abbrev vals : (List Val × (List Val × (List Val × (List Val × (List Val × (List Val × Unit {0}))))))
-  vals = (
-    (sliceVal (upper .ptr) (length (upper .now))) ∷ [],
-    (
-      (sliceVal (lower .ptr) (length (lower .now))) ∷ [],
-      (
-        (vint w32 (ofZ w32 width)) ∷ [],
-        (
-          (vint w32
-              (ofZ w32 height)) ∷ [],
-          ((vint w64 stride) ∷ [], ((vint w64 upper-rows) ∷ [], tt)),
-        ),
-      ),
-    ),
-  )
+  abbrev vals : Vals me.signature κs
+  vals =
+      ((sliceVal (upper .ptr) (length (upper .now))) ∷ [] ▹ (sliceVal (lower .ptr) (length (lower .now))) ∷ [] ▹ (vint w32 (ofZ w32 width)) ∷ [] ▹ (vint
+      w32 (ofZ w32 height)) ∷ [] ▹ (vint w64 stride) ∷ [] ▹ (vint w64 upper-rows) ∷ [] ▹ tt)
 
   -- what the function has when it starts, and what it owes
   abbrev entry : SProp 𝓤
-  entry = onEntry 𝓤 H A me.signature κs (q₀, tt) a vals
+  entry = onEntry 𝓤 H A me.signature κs (q₀ ▹ tt) a vals
 
   abbrev Post : Val → SProp 𝓤
-  Post = walkOf 𝓤 H A me.ended stayed (me.clauses 𝓤 H A mem run) .post ((κs, (q₀, tt), tt, a, vals), tt)
+  Post = walkOf 𝓤 H A me.ended stayed (me.clauses 𝓤 H A mem run) .post ((κs, (q₀ ▹ tt), tt, a, vals), tt)
 
   abbrev made : RefPlane
   made = record { upper = upper; lower = lower; width = width; height = height; stride = stride; «upper_rows» = upper-rows }
 
-  module _ (upper-is : Is (ShrSlice (named 0) κ₀ u16) upper ((sliceVal (upper .ptr) (length (upper .now))) ∷ [])) (lower-is : Is (ShrSlice (named 0) κ₀ u16)
-      lower ((sliceVal (lower .ptr) (length (lower .now))) ∷ [])) (width-is : Is i32 width ((vint w32 (ofZ w32 width)) ∷ [])) (height-is : Is i32 height
-      ((vint w32 (ofZ w32 height)) ∷ [])) (stride-is : Is usize stride ((vint w64 stride) ∷ [])) (upper-rows-is : Is usize upper-rows ((vint w64 upper-rows) ∷
-      [])) where
+  module _ (upper-is : Is (ShrSlice (named 0) κ₀ u16) upper ((sliceVal (upper .ptr) (length (upper .now))) ∷ [])) (lower-is : Is
+      (ShrSlice (named 0) κ₀ u16) lower ((sliceVal (lower .ptr) (length (lower .now))) ∷ []))
+      (width-is : Is i32 width ((vint w32 (ofZ w32 width)) ∷ [])) (height-is : Is i32 height ((vint w32 (ofZ w32 height)) ∷ []))
+      (stride-is : Is usize stride ((vint w64 stride) ∷ [])) (upper-rows-is : Is usize upper-rows ((vint w64 upper-rows) ∷ [])) where
     -- what the fields own is what the view owns
     exits : ent 𝓤 entry (Post (T′.lowered made))
     exits =
-        qed W ((‵ (flft κ₀ q₀) ⊛ ‵ ftrue) ∷ ‵ (owns ((ShrSlice (named 0) κ₀ u16) ∷ (ShrSlice (named 0) κ₀ u16) ∷ i32 ∷ i32 ∷ usize ∷ usize ∷ []) a vals) ∷ [])
-        ∵
-        suffices ! _ (ends-at 𝓤 H A me.ended stayed (me.clauses 𝓤 H A mem run) W ((κs, (q₀, tt), tt, a, vals), tt) (T′.lowered made) made (
-          tt,
-          (
-            tt,
-            (
-              tt,
-              (
-                tt,
-                (tt, (tt, tt)),
-              ),
-            ),
-          ),
-        ) (tt, (tt, (tt, (tt, (tt, (tt, tt))))))) $ says ! refl $
-        frame ! $ fsplit ! $ move ! (1 ∷ []) $ fsplit ! $ move ! (1 ∷ []) $ fsplit ! $ drop ! $ fsplit ! $ drop ! $ fsplit ! $ drop ! $ fsplit ! $ drop ! $
-        drop ! $ nothing ! $ nothing ! $ fjoin ! $ nothing ! $ fjoin ! $ nothing ! $ fjoin ! $ nothing ! $ fjoin ! $ nothing ! $ fjoin ! $ nothing ! $ fjoin !
-        $ frame ! $ nothing ! $ owned ! usize (Is usize) (uint-makes 𝓤 H A W w64) upper-rows _ upper-rows-is $ fjoin ! $ owned ! usize (Is usize) (uint-makes
-        𝓤 H A W w64) stride _ stride-is $ fjoin ! $ owned ! i32 (Is i32) (sint-makes 𝓤 H A W w32) height _ height-is $ fjoin ! $ owned ! i32 (Is i32)
-        (sint-makes 𝓤 H A W w32) width _ width-is $ fjoin ! $ move ! (1 ∷ 0 ∷ []) $ fjoin ! $ move ! (1 ∷ 0 ∷ []) $ fjoin ! $ by ! (own-shut 𝓤 H A W
-        (T.the-type (α κs)) (T′.the-laws (α κs)) (upper, (lower, (width, (height, (stride, (upper-rows, tt)))))))
+        qed W ((‵ (flft κ₀ q₀) ⊛ ‵ ftrue) ∷ ‵ (owns ((ShrSlice (named 0) κ₀ u16) ∷ (ShrSlice (named 0) κ₀ u16) ∷ i32 ∷ i32 ∷ usize ∷ usize ∷ []) a vals)
+        ∷ []) ∵
+        suffices ! _ (ends-at 𝓤 H A me.ended stayed (me.clauses 𝓤 H A mem run) W ((κs, (q₀ ▹ tt), tt, a, vals), tt) (T′.lowered made) made (tt ▹ tt ▹ tt
+        ▹ tt ▹ tt ▹ tt ▹ tt) (tt ▹ tt ▹ tt ▹ tt ▹ tt ▹ tt ▹ tt)) $ says ! refl $
+        frame ! $ aside ! $ aside ! $ without ! $ without ! $ without ! $ without ! $ drop ! $ nothing ! $ none ! $ none ! $ none ! $ none ! $ none ! $
+        none ! $ frame ! $ nothing ! $ fresh ! usize (uint-makes 𝓤 H A W w64) upper-rows upper-rows-is $
+        fresh ! usize (uint-makes 𝓤 H A W w64) stride stride-is $ fresh ! i32 (sint-makes 𝓤 H A W w32) height height-is $
+        fresh ! i32 (sint-makes 𝓤 H A W w32) width width-is $ move ! (1 ∷ 0 ∷ []) $ fjoin ! $ move ! (1 ∷ 0 ∷ []) $ fjoin ! $
+        by ! (own-shut 𝓤 H A W (T.the-type (α κs)) (T′.the-laws (α κs)) (T.struct (α κs) .as-values made))
 
     -- the code, statement by statement
     module _ (C : Calls 𝓤 H) (Λ : Loops 𝓤 H) where
-      walk : ent 𝓤 entry (WpFn 𝓤 H C Λ code.function ((sliceVal (upper .ptr) (length (upper .now))) ∷ (sliceVal (lower .ptr) (length (lower .now))) ∷ (vint
-          w32 (ofZ w32 width)) ∷ (vint w32 (ofZ w32 height)) ∷ (vint w64 stride) ∷ (vint w64 upper-rows) ∷ []) Post)
+      walk : ent 𝓤 entry (WpFn 𝓤 H C Λ code.function
+          ((sliceVal (upper .ptr) (length (upper .now))) ∷ (sliceVal (lower .ptr) (length (lower .now))) ∷ (vint w32 (ofZ w32 width)) ∷ (vint w32 (ofZ w32 height)) ∷ (vint w64 stride) ∷ (vint w64 upper-rows) ∷ [])
+          Post)
       walk =
-          qed W (raw entry ∷ []) ∵ enter ! C Λ code.function ((sliceVal (upper .ptr) (length (upper .now))) ∷ (sliceVal (lower .ptr) (length (lower .now))) ∷
-          (vint w32 (ofZ w32 width)) ∷ (vint w32 (ofZ w32 height)) ∷ (vint w64 stride) ∷ (vint w64 upper-rows) ∷ []) _ $
+          qed W (raw entry ∷ []) ∵ enter ! C Λ code.function ((sliceVal (upper .ptr) (length (upper .now))) ∷ (sliceVal (lower .ptr) (length (lower
+          .now))) ∷ (vint w32 (ofZ w32 width)) ∷ (vint w32 (ofZ w32 height)) ∷ (vint w64 stride) ∷ (vint w64 upper-rows) ∷ []) _ $
           alloc1 ! (λ l₀. alloc1 ! (λ l₁. alloc1 ! (λ l₂. alloc1 ! (λ l₃. alloc1 ! (λ l₄. alloc1 ! (λ l₅. alloc1 ! (λ l₆. alloc0 ! $ params1 ! $
           pass1 ! (init ! 10 refl ((shr-slice-lawful 𝓤 H A W (named 0) κ₀ u16) .typed upper _ upper-is .0)) $
           pass1 ! (init ! 8 refl ((shr-slice-lawful 𝓤 H A W (named 0) κ₀ u16) .typed lower _ lower-is .0)) $
@@ -106,92 +82,40 @@ module _ {M : Type 1} (𝓤 : URA M) (H : Heap 𝓤) (A : Atoms 𝓤) (W : Given
           pass1 ! (init ! 2 refl ((uint-lawful 𝓤 H A W w64) .typed stride _ stride-is .0)) $
           pass1 ! (init ! 0 refl ((uint-lawful 𝓤 H A W w64) .typed upper-rows _ upper-rows-is .0)) $
           pass0 ! $
-          assigns ! (agg ! (and-then ! (load ! (from ! (stop !)) (look ! 10 refl)) (and-then ! (load ! (from ! (stop !)) (look ! 8 refl)) (and-then ! (load !
-          (from ! (stop !)) (look ! 6 refl)) (and-then ! (load ! (from ! (stop !)) (look ! 4 refl)) (and-then ! (load ! (from ! (stop !)) (look ! 2 refl))
-          (and-then ! (load ! (from ! (stop !)) (look ! 0 refl)) (no-more !)))))))) (from ! (stop !)) (init ! 12 refl (
+          assigns ! (agg ! (and-then ! (load ! (from ! (stop !)) (look ! 10 refl)) (and-then ! (load ! (from ! (stop !)) (look ! 8 refl)) (and-then !
+          (load ! (from ! (stop !)) (look ! 6 refl)) (and-then ! (load ! (from ! (stop !)) (look ! 4 refl)) (and-then ! (load ! (from ! (stop !)) (look
+          ! 2 refl)) (and-then ! (load ! (from ! (stop !)) (look ! 0 refl)) (no-more !)))))))) (from ! (stop !)) (init ! 12 refl (
             tt,
-            (
-              (shr-slice-lawful 𝓤 H A W (named
-                  0) κ₀ u16) .typed upper _ upper-is .0 .1,
-              (
-                (shr-slice-lawful 𝓤 H A W (named 0) κ₀ u16) .typed lower _ lower-is .0 .1,
-                (
-                  (sint-lawful 𝓤 H A W w32)
-                      .typed width _ width-is .0 .1,
-                  (
-                    (sint-lawful 𝓤 H A W w32) .typed height _ height-is .0 .1,
-                    (
-                      (uint-lawful 𝓤 H A W w64) .typed stride _ stride-is .0
-                          .1,
-                      ((uint-lawful 𝓤 H A W w64) .typed upper-rows _ upper-rows-is .0 .1, tt),
-                    ),
-                  ),
-                ),
-              ),
-            ),
+            ((shr-slice-lawful
+                𝓤 H A W (named 0) κ₀ u16) .typed upper _ upper-is .0 .1 ▹ (shr-slice-lawful 𝓤 H A W (named 0) κ₀ u16) .typed lower _ lower-is .0 .1 ▹
+                (sint-lawful 𝓤 H A W w32) .typed width _ width-is .0 .1 ▹ (sint-lawful 𝓤 H A W w32) .typed height _ height-is .0 .1 ▹ (uint-lawful 𝓤 H A W
+                w64) .typed stride _ stride-is .0 .1 ▹ (uint-lawful 𝓤 H A W w64) .typed upper-rows _ upper-rows-is .0 .1 ▹ tt),
           )) $
           returns ! (look ! 12 refl) $
           forget ! 0 refl $ forget ! 2 refl $ forget ! 4 refl $ forget ! 6 refl $ forget ! 8 refl $ forget ! 10 refl $ forget ! 12 refl $
-          move ! (12 ∷ 13 ∷ []) $ free1 ! $ move ! (10 ∷ 11 ∷ []) $ free1 ! $ move ! (8 ∷ 9 ∷ []) $ free1 ! $ move ! (6 ∷ 7 ∷ []) $ free1 ! $ move ! (4 ∷ 5 ∷
-          []) $ free1 ! $ move ! (2 ∷ 3 ∷ []) $ free1 ! $ move ! (0 ∷ 1 ∷ []) $ free1 ! $ free0 ! $
+          move ! (12 ∷ 13 ∷ []) $ free1 ! $ move ! (10 ∷ 11 ∷ []) $ free1 ! $ move ! (8 ∷ 9 ∷ []) $ free1 ! $ move ! (6 ∷ 7 ∷ []) $ free1 ! $
+          move ! (4 ∷ 5 ∷ []) $ free1 ! $ move ! (2 ∷ 3 ∷ []) $ free1 ! $ move ! (0 ∷ 1 ∷ []) $ free1 ! $ free0 ! $
           by ! exits)))))))
 
 -- the walk at every choice of lifetimes and arguments, and from it the function's statement
 module _ {M : Type 1} (𝓤 : URA M) (H : Heap 𝓤) (A : Atoms 𝓤) (W : Given 𝓤 H A) (mem : Memory → SProp 𝓤) (run : Routine → Fun 𝓤) where
   me-walks : (C : Calls 𝓤 H) (Λ : Loops 𝓤 H) → Walks 𝓤 H A me.ended stayed (WpFn 𝓤 H C Λ code.function) (me.clauses 𝓤 H A mem run)
   me-walks C Λ =
-      walked 𝓤 H A me.ended stayed (me.clauses 𝓤 H A mem run) (WpFn 𝓤 H C Λ code.function) (λ κs. (
-        slice-vals,
-        (
-          slice-vals,
-          (
-            sint-vals w32,
-            (
-              sint-vals w32,
-              (uint-vals w64, (uint-vals w64, tt)),
-            ),
-          ),
-        ),
-      )) (λ κs. (
-        shr-slice-tells (named 0) (κs .0) u16,
-        (
-          shr-slice-tells (named 0) (κs .0) u16,
-          (
-            sint-tells w32,
-            (sint-tells w32, (uint-tells w64, (uint-tells w64, tt))),
-          ),
-        ),
-      )) (λ κs qs bounds a g are. via 𝓤 _ (fst∗ 𝓤 _ (emp 𝓤)) (walk 𝓤 H A W mem run (κs .0) (qs .0)
-      (a .0) (a .1 .0) (a .1 .1 .0) (a .1 .1 .1 .0) (a .1 .1 .1 .1 .0) (a .1 .1 .1 .1 .1 .0) (are .0) (are .1 .0) (are .1 .1 .0) (are .1 .1 .1 .0) (are .1 .1
-      .1 .1 .0) (are .1 .1 .1 .1 .1 .0) C Λ))
+      walked 𝓤 H A me.ended stayed (me.clauses 𝓤 H A mem run) (WpFn 𝓤 H C Λ code.function) (λ κs. (slice-vals ▹ slice-vals ▹ sint-vals w32 ▹ sint-vals
+      w32 ▹ uint-vals w64 ▹ uint-vals w64 ▹ tt)) (λ κs. (shr-slice-tells (named 0) (κs .0) u16 ▹ shr-slice-tells (named 0) (κs .0) u16 ▹ sint-tells w32
+      ▹ sint-tells w32 ▹ uint-tells w64 ▹ uint-tells w64 ▹ tt)) (λ κs qs bounds a g are. via 𝓤 _ (fst∗ 𝓤 _ (emp 𝓤)) (walk 𝓤 H A W mem run (κs .0) (qs
+      .0) (a .0) (a .1 .0) (a .1 .1 .0) (a .1 .1 .1 .0) (a .1 .1 .1 .1 .0) (a .1 .1 .1 .1 .1 .0) (are .0) (are .1 .0) (are .1 .1 .0) (are .1 .1 .1 .0)
+      (are .1 .1 .1 .1 .0) (are .1 .1 .1 .1 .1 .0) C Λ))
 
 me-meets :
-    {M : Type 1} (𝓤 : URA M) (H : Heap 𝓤) (A : Atoms 𝓤) (W : Given 𝓤 H A) (mem : Memory → SProp 𝓤) (run : Routine → Fun 𝓤) (𝓣 : Tables 𝓤 H) → Meets 𝓤 H A
-    me.signature (WpFn 𝓤 H (𝓣 .C) (𝓣 .Λ) code.function) (me.spec 𝓤 H A mem run)
+    {M : Type 1} (𝓤 : URA M) (H : Heap 𝓤) (A : Atoms 𝓤) (W : Given 𝓤 H A) (mem : Memory → SProp 𝓤) (run : Routine → Fun 𝓤) (𝓣 : Tables 𝓤 H) → Meets 𝓤 H
+    A me.signature (WpFn 𝓤 H (𝓣 .C) (𝓣 .Λ) code.function) (me.spec 𝓤 H A mem run)
 me-meets 𝓤 H A W mem run 𝓣 =
-    walk-meets 𝓤 H A me.ended stayed W (
-      goes-dropped 𝓤 H A W 1 (shrSliceOf (0 ∷ []) tt (plain (λ _. u16))) yes (λ κs x f. refl),
-      (
-        goes-dropped 𝓤 H A W 1
-            (shrSliceOf (0 ∷ []) tt (plain (λ _. u16))) yes (λ κs x f. refl),
-        (
-          goes-dropped 𝓤 H A W 1 (plain (λ κs. i32)) yes (λ κs x f. refl),
-          (
-            goes-dropped 𝓤 H A W
-                1 (plain (λ κs. i32)) yes (λ κs x f. refl),
-            (
-              goes-dropped 𝓤 H A W 1 (plain (λ κs. usize)) yes (λ κs x f. refl),
-              (
-                goes-dropped 𝓤 H A W 1 (plain (λ κs.
-                    usize)) yes (λ κs x f. refl),
-                tt,
-              ),
-            ),
-          ),
-        ),
-      ),
-    ) (me.clauses 𝓤 H A mem run) (WpFn 𝓤 H (𝓣 .C) (𝓣 .Λ) code.function) (WpFn-mono 𝓤 H (W .laws) 𝓣 code.function)
-    (me-walks 𝓤 H A W mem run (𝓣 .C) (𝓣 .Λ))
+    walk-meets 𝓤 H A me.ended stayed W (goes-dropped 𝓤 H A W 1 (shrSliceOf (0 ∷ []) tt (plain (λ _. u16))) yes (λ κs x f. refl) ▹ goes-dropped 𝓤 H A W 1
+    (shrSliceOf (0 ∷ []) tt (plain (λ _. u16))) yes (λ κs x f. refl) ▹ goes-dropped 𝓤 H A W 1 (plain (λ κs. i32)) yes (λ κs x f. refl) ▹ goes-dropped 𝓤
+    H A W 1 (plain (λ κs. i32)) yes (λ κs x f. refl) ▹ goes-dropped 𝓤 H A W 1 (plain (λ κs. usize)) yes (λ κs x f. refl) ▹ goes-dropped 𝓤 H A W 1 (plain
+    (λ κs. usize)) yes (λ κs x f. refl) ▹ tt) (me.clauses 𝓤 H A mem run) (WpFn 𝓤 H (𝓣 .C) (𝓣 .Λ) code.function) (WpFn-mono 𝓤 H (W .laws) 𝓣
+    code.function) (me-walks 𝓤 H A W mem run (𝓣 .C) (𝓣 .Λ))
 
 pub new-spec : {M : Type 1} → stated.statement M
 unfolding code.routine tablesOf

@@ -1,16 +1,15 @@
 -- `views::ref_plane::RefPlane::row` meets its contract: it takes the view apart and asks the call below.
 -- Written by tools/walks/views.py: an edit of the function or of its callee's contract wants it written anew. Assumes nothing.
-use Rattle.views.proofs.Kit.{_≡_, refl, ℕ, List, [], _∷_, ℤ, length, URA, named, erased, w32, w64, Val, vint, vptr, ofZ, SProp, ent, sep, emp, via}
-use Rattle.views.proofs.Kit.{fst∗, id⊢, Lft, Share, ftrue, flft, Memory, Routine, Heap, Calls, Loops, WpFn, Tables, Atoms, Lfts, Fun, fact, givenOf}
-use Rattle.views.proofs.Kit.{tables, tablesOf, Given, ‵, raw, _⊛_, given, ⋆, some, later, _$_, _∵_, !, qed, by, move, drop, use1, use2, use3, split}
-use Rattle.views.proofs.Kit.{join, learn, pick, rewrite, fsplit, fjoin, feqL, suffices, frame, await, done, agg, whole, sub, look-in, look, init}
-use Rattle.views.proofs.Kit.{forget, stop, hop, fld, from, load, addr, of-opd, and-then, no-more, assigns, land, returns, enter, alloc1, alloc0}
-use Rattle.views.proofs.Kit.{params1, pass1, pass0, free1, free0, FmC, fmOf, WpFn-mono, owns, Is, shows, uint-makes, uint-vals, uint-tells}
-use Rattle.views.proofs.Kit.{uint-lawful, sint-makes, sint-vals, sint-tells, sint-lawful, u16, u32, usize, i32, RefT, NamedLft, MutRef, ptr-vals}
-use Rattle.views.proofs.Kit.{mut-tells, mut-lawful, now, plain, namedLft, shrSliceOf, sliceVal, MutSlice, ShrSlice, slice-vals, shr-slice-tells}
-use Rattle.views.proofs.Kit.{shr-slice-lawful, shr-slice-copy, mut-slice-tells, mut-slice-lawful, owned, peeks, heard, nothing, all-own, own-open}
-use Rattle.views.proofs.Kit.{own-shut, Contract, Triple, calls-at, onEntry, Meets, tripleOf, entered, cited, says, Stays, stay-dropped, gave-slice}
-use Rattle.views.proofs.Kit.{gave-ref, walkOf, goes-dropped, goes-gave-slice, goes-gave-ref, Walks, ends-at, walked, walk-meets, yes, ensured, lasts}
+use Rattle.views.proofs.Kit.{refl, ℕ, List, [], _∷_, length, URA, named, w64, Val, vint, vptr, SProp, ent, emp, via, fst∗, id⊢, Lft, Share}
+use Rattle.views.proofs.Kit.{ftrue, flft, Memory, Routine, Heap, Calls, Loops, WpFn, Tables, Atoms, Lfts, Fun, fact, givenOf, tables, tablesOf}
+use Rattle.views.proofs.Kit.{Given, ‵, raw, _⊛_, ⋆, some, later, _$_, _∵_, !, qed, by, move, drop, use1, split, join, pick, fjoin, suffices}
+use Rattle.views.proofs.Kit.{frame, await, done, agg, whole, sub, look-in, look, init, forget, stop, hop, fld, from, load, addr, of-opd}
+use Rattle.views.proofs.Kit.{and-then, no-more, assigns, land, returns, enter, alloc1, alloc0, params1, pass1, pass0, free1, free0, FmC, fmOf}
+use Rattle.views.proofs.Kit.{WpFn-mono, owns, Is, shows, uint-makes, uint-vals, uint-tells, uint-lawful, u16, u32, usize, RefT, NamedLft, MutRef}
+use Rattle.views.proofs.Kit.{ptr-vals, mut-tells, mut-lawful, now, plain, namedLft, sliceVal, ShrSlice, shr-slice-lawful, peeks, heard, nothing}
+use Rattle.views.proofs.Kit.{Contract, Triple, calls-at, Args, Vals, onEntry, Meets, tripleOf, entered, cited, says, Stays, stay-dropped}
+use Rattle.views.proofs.Kit.{gave-ref, walkOf, goes-dropped, goes-gave-ref, Walks, ends-at, walked, walk-meets, yes, Lasts, ensured, lasts}
+use Rattle.views.proofs.Steps.{_▹_, without, aside, none, fresh, opened}
 use Rattle.views.proofs.Kit.LL
 use Rattle.samples.specs.Plane.{ReadOutcome}
 use Rattle.views.specs.Seen.{plane}
@@ -35,122 +34,85 @@ abbrev α : Lfts 2 → NamedLft
 
 -- what is had of each parameter when the function returns: of what it was lent to write, the last value; of the rest, nothing
 abbrev stayed : Stays (me.ended .signature .params) (me.ended .kept)
-stayed = (stay-dropped _ yes, (stay-dropped _ yes, (gave-ref (1 ∷ []) tt (plain (λ _. u32)), tt)))
+stayed = (stay-dropped _ yes ▹ stay-dropped _ yes ▹ gave-ref (1 ∷ []) tt (plain (λ _. u32)) ▹ tt)
 
 module _ {M : Type 1} (𝓤 : URA M) (H : Heap 𝓤) (A : Atoms 𝓤) (mem : Memory → SProp 𝓤) (run : Routine → Fun 𝓤) where
   abbrev C-read : Contract 𝓤
   C-read = tripleOf 𝓤 H A read.signature (read.spec 𝓤 H A mem run)
 
-module _ {M : Type 1} (𝓤 : URA M) (H : Heap 𝓤) (A : Atoms 𝓤) (W : Given 𝓤 H A) (mem : Memory → SProp 𝓤) (run : Routine → Fun 𝓤) (κ₀ κ₁ : Lft) (q₀ q₁ : Share)
-    (self : RefPlane) (y : ℕ) (number : RefT ℕ) where
+module _ {M : Type 1} (𝓤 : URA M) (H : Heap 𝓤) (A : Atoms 𝓤) (W : Given 𝓤 H A) (mem : Memory → SProp 𝓤) (run : Routine → Fun 𝓤) (κ₀ κ₁ : Lft)
+    (q₀ q₁ : Share) (self : RefPlane) (y : ℕ) (number : RefT ℕ) where
   abbrev κs : Lfts 2
-  κs = (κ₀, (κ₁, tt))
+  κs = (κ₀ ▹ κ₁ ▹ tt)
 
-  abbrev a : (RefPlane × (ℕ × (RefT ℕ × Unit {0})))
-  a = (self, (y, (number, tt)))
+  abbrev a : Args me.signature κs
+  a = (self ▹ y ▹ number ▹ tt)
 
-  abbrev vals : (List Val × (List Val × (List Val × Unit {0})))
-  vals = ((T′.lowered self) ∷ [], ((vint w64 y) ∷ [], ((vptr (number .ptr .0) (number .ptr .1)) ∷ [], tt)))
+  abbrev vals : Vals me.signature κs
+  vals = ((T′.lowered self) ∷ [] ▹ (vint w64 y) ∷ [] ▹ (vptr (number .ptr .0) (number .ptr .1)) ∷ [] ▹ tt)
 
   -- what the function has when it starts, and what it owes
   abbrev entry : SProp 𝓤
-  entry = onEntry 𝓤 H A me.signature κs (q₀, (q₁, tt)) a vals
+  entry = onEntry 𝓤 H A me.signature κs (q₀ ▹ q₁ ▹ tt) a vals
 
   abbrev Post : Val → SProp 𝓤
-  Post = walkOf 𝓤 H A me.ended stayed (me.clauses 𝓤 H A mem run) .post ((κs, (q₀, (q₁, tt)), tt, a, vals), tt)
+  Post = walkOf 𝓤 H A me.ended stayed (me.clauses 𝓤 H A mem run) .post ((κs, (q₀ ▹ q₁ ▹ tt), tt, a, vals), tt)
 
   abbrev self-size : PlaneGeom
   self-size = record { width = (self .width); height = (self .height); stride = (self .stride); «upper_rows» = (self .«upper_rows») }
 
   -- what is handed down
-  abbrev ca : (RefT (List ℕ) × (RefT (List ℕ) × (PlaneGeom × (ℕ × (RefT ℕ × Unit {0})))))
-  ca = ((self .upper), ((self .lower), (self-size, (y, (number, tt)))))
+  abbrev ca : Args read.signature κs
+  ca = ((self .upper) ▹ (self .lower) ▹ self-size ▹ y ▹ number ▹ tt)
 
   abbrev to : C-read 𝓤 H A mem run .Ghost
   to = (
     (
       κs,
-      (q₀, (q₁, tt)),
+      (q₀ ▹ q₁ ▹ tt),
       tt,
       ca,
-      (
-        (sliceVal ((self .upper) .ptr) (length ((self .upper) .now))) ∷ [],
-        (
-          (sliceVal ((self .lower) .ptr) (length ((self
-              .lower) .now))) ∷ [],
-          ((PlaneGeom′.lowered self-size) ∷ [], ((vint w64 y) ∷ [], ((vptr (number .ptr .0) (number .ptr .1)) ∷ [], tt))),
-        ),
-      ),
+      ((sliceVal ((self .upper) .ptr) (length ((self .upper) .now))) ∷ [] ▹ (sliceVal ((self .lower) .ptr) (length ((self
+          .lower) .now))) ∷ [] ▹ (PlaneGeom′.lowered self-size) ∷ [] ▹ (vint w64 y) ∷ [] ▹ (vptr (number .ptr .0) (number .ptr .1)) ∷ [] ▹ tt),
     ),
     tt,
   )
 
   -- what the callee ensures, at the view
-  abbrev Said : RefT (List ℕ) → (Unit {0} × (Unit {0} × (Unit {0} × (Unit {0} × (ℕ × Unit {0}))))) → Type 0
+  abbrev Said : RefT (List ℕ) → Lasts read.ended κs ca → Type 0
   Said r ws = ReadOutcome (plane self) y ((ws .1 .1 .1 .1 .0)) (now r)
 
-  module _ (self-is : Is (T.the-row (α κs)) self ((T′.lowered self) ∷ [])) (y-is : Is usize y ((vint w64 y) ∷ [])) (number-is : Is (MutRef (named 1) κ₁ u32)
-      number ((vptr (number .ptr .0) (number .ptr .1)) ∷ [])) where
+  module _ (self-is : Is (T.the-row (α κs)) self ((T′.lowered self) ∷ [])) (y-is : Is usize y ((vint w64 y) ∷ []))
+      (number-is : Is (MutRef (named 1) κ₁ u32) number ((vptr (number .ptr .0) (number .ptr .1)) ∷ [])) where
     -- what the view and the other parameters own is what the callee asks
     asked : ent 𝓤 entry (C-read 𝓤 H A mem run .pre to)
     asked =
         let self-fields = LL.owed (T.the-type (α κs)) (T′.the-laws (α κs)) self _ self-is in
         qed W ((‵ (flft κ₀ q₀) ⊛ ‵ (flft κ₁ q₁) ⊛ ‵ ftrue) ∷ ‵ (owns ((T.the-row (α κs)) ∷ usize ∷ (MutRef (named 1) κ₁ u32) ∷ []) a vals) ∷ []) ∵
-        move ! (1 ∷ []) $ fsplit ! $ move ! (1 ∷ []) $ fsplit ! $ drop ! $ fsplit ! $ move ! (1 ∷ []) $ drop ! $ move ! (1 ∷ []) $ use1 W (given ((T′.lowered
-        self) ∷ [] ≡ (T′.lowered self) ∷ []) (‵ (all-own (T.the-type (α κs) .parts) (T′.the-laws (α κs)) (
-          self .upper,
-          (
-            self .lower,
-            (
-              self .width,
-              (
-                self
-                    .height,
-                (self .stride, (self .«upper_rows», tt)),
-              ),
-            ),
-          ),
-        )))) (own-open 𝓤 H A W (T.the-type (α κs)) (T′.the-laws (α κs)) (
-          self .upper,
-          (
-            self .lower,
-            (
-              self
-                  .width,
-              (self .height, (self .stride, (self .«upper_rows», tt))),
-            ),
-          ),
-        ) (T′.lowered self)) $ learn ! (λ _. fsplit ! $ move ! (1 ∷ []) $ fsplit ! $ move !
-        (1 ∷ []) $ fsplit ! $ drop ! $ fsplit ! $ drop ! $ fsplit ! $ drop ! $ fsplit ! $ drop ! $ drop ! $ nothing ! $ move ! (3 ∷ 0 ∷ []) $ fjoin ! $ owned
-        ! usize (Is usize) (uint-makes 𝓤 H A W w64) y _ y-is $ fjoin ! $ owned ! PlaneGeom.the-row (Is PlaneGeom.the-row) (LL.makes PlaneGeom.the-type
-        PlaneGeom′.the-plain 𝓤 H A) self-size _ (LL.owes PlaneGeom.the-type PlaneGeom′.the-laws self-size (
-          (self-fields .1 .1 .0),
-          (
-            (self-fields .1 .1 .1 .0),
-            ((self-fields .1 .1 .1 .1 .0), ((self-fields .1 .1 .1 .1 .1 .0), tt)),
-          ),
-        )) $ fjoin ! $ move ! (1 ∷ 0 ∷ []) $ fjoin ! $ move ! (1 ∷ 0 ∷ []) $ fjoin ! $
-        move ! (1 ∷ 0 ∷ []) $ join ! $ frame ! $ done !)
+        move ! (1 ∷ []) $ aside ! $ without ! $ aside ! $ drop ! $ move ! (1 ∷ []) $
+        opened ! (T.the-type (α κs)) (T′.the-laws (α κs)) (T.struct (α κs) .as-values self) $ aside ! $ aside ! $ without ! $ without ! $ without ! $
+        without ! $ drop ! $ nothing ! $ move ! (3 ∷ 0 ∷ []) $ fjoin ! $ fresh ! usize (uint-makes 𝓤 H A W w64) y y-is $
+        fresh ! PlaneGeom.the-row (LL.makes PlaneGeom.the-type PlaneGeom′.the-plain 𝓤 H A) self-size (LL.owes PlaneGeom.the-type PlaneGeom′.the-laws
+        self-size ((self-fields .1 .1 .0) ▹ (self-fields .1 .1 .1 .0) ▹ (self-fields .1 .1 .1 .1 .0) ▹ (self-fields .1 .1 .1 .1 .1 .0) ▹ tt)) $
+        move ! (1 ∷ 0 ∷ []) $ fjoin ! $ move ! (1 ∷ 0 ∷ []) $ fjoin ! $ move ! (1 ∷ 0 ∷ []) $ join ! $ frame ! $ done !
 
     -- what the callee ensures, with what it left, is what is owed
-    exits : (r : RefT (List ℕ)) (u : Val) (ws : (Unit {0} × (Unit {0} × (Unit {0} × (Unit {0} × (ℕ × Unit {0})))))) → Said r ws → ent 𝓤 (⋆ 𝓤 H A (‵ ((ShrSlice
-        (named 0) κ₀ u16) .own r (u ∷ [])) ∷ (‵ (flft κ₀ q₀) ⊛ ‵ (flft κ₁ q₁) ⊛ ‵ ftrue) ∷ ‵ (lasts read.ended κs ca ws) ∷ [])) (Post u)
+    exits : (r : RefT (List ℕ)) (u : Val) (ws : Lasts read.ended κs ca) → Said r ws → ent 𝓤 (⋆ 𝓤 H A
+        (‵ ((ShrSlice (named 0) κ₀ u16) .own r (u ∷ [])) ∷ (‵ (flft κ₀ q₀) ⊛ ‵ (flft κ₁ q₁) ⊛ ‵ ftrue) ∷ ‵ (lasts read.ended κs ca ws) ∷ [])) (Post u)
     exits r u ws e =
         qed W (‵ ((ShrSlice (named 0) κ₀ u16) .own r (u ∷ [])) ∷ (‵ (flft κ₀ q₀) ⊛ ‵ (flft κ₁ q₁) ⊛ ‵ ftrue) ∷ ‵ (lasts read.ended κs ca ws) ∷ []) ∵
-        move ! (2 ∷ []) $ fsplit ! $ drop ! $ fsplit ! $ drop ! $ fsplit ! $ drop ! $ fsplit ! $ drop ! $ fsplit ! $ move ! (1 ∷ []) $ drop ! $ suffices ! _
-        (ends-at 𝓤 H A me.ended stayed (me.clauses 𝓤 H A mem run) W ((κs, (q₀, (q₁, tt)), tt, a, vals), tt) u r (tt, (tt, ((ws .1 .1 .1 .1 .0), tt))) (
-          tt,
-          (tt, (tt, tt)),
-        )) $ says ! e $ move ! (2 ∷ []) $ frame ! $ nothing ! $ move ! (1 ∷ 0 ∷ []) $ fjoin ! $ nothing ! $ fjoin ! $ nothing ! $ fjoin ! $ done
-        !
+        move ! (2 ∷ []) $ without ! $ without ! $ without ! $ without ! $ aside ! $ drop ! $
+        suffices ! _ (ends-at 𝓤 H A me.ended stayed (me.clauses 𝓤 H A mem run) W ((κs, (q₀ ▹ q₁ ▹ tt), tt, a, vals), tt) u r (tt ▹ tt ▹ (ws .1 .1 .1 .1
+        .0) ▹ tt) (tt ▹ tt ▹ tt ▹ tt)) $ says ! e $ move ! (2 ∷ []) $ frame ! $ nothing ! $ move ! (1 ∷ 0 ∷ []) $ fjoin ! $ none ! $ none ! $ done !
 
     -- the code, statement by statement
     module _ (C : Calls 𝓤 H) (Λ : Loops 𝓤 H) (fm : FmC 𝓤 H (W .laws) C) (known-read : Triple 𝓤 (C #samples·row-read) (C-read 𝓤 H A mem run)) where
       walk : ent 𝓤 entry (WpFn 𝓤 H C Λ code.function ((T′.lowered self) ∷ (vint w64 y) ∷ (vptr (number .ptr .0) (number .ptr .1)) ∷ []) Post)
       walk =
+          let self-typed = (LL.lawful (T.the-type (α κs)) (T′.the-laws (α κs)) 𝓤 H A W) .typed self _ self-is .0 .1 in
           qed W (raw entry ∷ []) ∵ enter ! C Λ code.function ((T′.lowered self) ∷ (vint w64 y) ∷ (vptr (number .ptr .0) (number .ptr .1)) ∷ []) _ $
-          alloc1 ! (λ l₀. alloc1 ! (λ l₁. alloc1 ! (λ l₂. alloc1 ! (λ l₃. alloc1 ! (λ l₄. alloc1 ! (λ l₅. alloc1 ! (λ l₆. alloc1 ! (λ l₇. alloc1 ! (λ l₈.
-          alloc1 ! (λ l₉. alloc1 ! (λ l₁₀. alloc1 ! (λ l₁₁. alloc0 ! $ params1 ! $
+          alloc1 ! (λ l₀. alloc1 ! (λ l₁. alloc1 ! (λ l₂. alloc1 ! (λ l₃. alloc1 ! (λ l₄. alloc1 ! (λ l₅. alloc1 ! (λ l₆. alloc1 ! (λ l₇. alloc1 ! (λ
+          l₈. alloc1 ! (λ l₉. alloc1 ! (λ l₁₀. alloc1 ! (λ l₁₁. alloc0 ! $ params1 ! $
           pass1 ! (init ! 20 refl ((LL.lawful (T.the-type (α κs)) (T′.the-laws (α κs)) 𝓤 H A W) .typed self _ self-is .0)) $
           pass1 ! (init ! 18 refl ((uint-lawful 𝓤 H A W w64) .typed y _ y-is .0)) $
           pass1 ! (init ! 16 refl ((mut-lawful 𝓤 H A W (named 1) κ₁ u32) .typed number _ number-is .0)) $
@@ -158,98 +120,70 @@ module _ {M : Type 1} (𝓤 : URA M) (H : Heap 𝓤) (A : Atoms 𝓤) (W : Given
           -- self's size
           assigns ! (of-opd ! (load ! (from ! (fld ! refl (stop !))) (look-in ! 20 (sub ! 2 refl (whole !))))) (from ! (stop !)) (init ! 12 refl (
             tt,
-            (LL.lawful (T.the-type (α κs)) (T′.the-laws (α κs)) 𝓤 H A W) .typed self _ self-is .0 .1 .1 .1 .0,
+            (self-typed .1 .1 .0),
           )) $
           assigns ! (of-opd ! (load ! (from ! (fld ! refl (stop !))) (look-in ! 20 (sub ! 3 refl (whole !))))) (from ! (stop !)) (init ! 10 refl (
             tt,
-            (LL.lawful (T.the-type (α κs)) (T′.the-laws (α κs)) 𝓤 H A W) .typed self _ self-is .0 .1 .1 .1 .1 .0,
+            (self-typed .1 .1 .1 .0),
           )) $
           assigns ! (of-opd ! (load ! (from ! (fld ! refl (stop !))) (look-in ! 20 (sub ! 4 refl (whole !))))) (from ! (stop !)) (init ! 8 refl (
             tt,
-            (LL.lawful (T.the-type (α κs)) (T′.the-laws (α κs)) 𝓤 H A W) .typed self _ self-is .0 .1 .1 .1 .1 .1 .0,
+            (self-typed .1 .1 .1 .1 .0),
           )) $
           assigns ! (of-opd ! (load ! (from ! (fld ! refl (stop !))) (look-in ! 20 (sub ! 5 refl (whole !))))) (from ! (stop !)) (init ! 6 refl (
             tt,
-            (LL.lawful (T.the-type (α κs)) (T′.the-laws (α κs)) 𝓤 H A W) .typed self _ self-is .0 .1 .1 .1 .1 .1 .1 .0,
+            (self-typed .1 .1 .1 .1 .1 .0),
           )) $
-          assigns ! (agg ! (and-then ! (load ! (from ! (stop !)) (look ! 12 refl)) (and-then ! (load ! (from ! (stop !)) (look ! 10 refl)) (and-then ! (load !
-          (from ! (stop !)) (look ! 8 refl)) (and-then ! (load ! (from ! (stop !)) (look ! 6 refl)) (no-more !)))))) (from ! (stop !)) (init ! 14 refl (
-            tt,
-            (
-              (LL.lawful (T.the-type (α κs)) (T′.the-laws (α κs)) 𝓤 H A W) .typed self _ self-is .0 .1 .1 .1 .0,
-              (
-                (LL.lawful (T.the-type (α κs)) (T′.the-laws (α
-                    κs)) 𝓤 H A W) .typed self _ self-is .0 .1 .1 .1 .1 .0,
-                (
-                  (LL.lawful (T.the-type (α κs)) (T′.the-laws (α κs)) 𝓤 H A W) .typed self _ self-is .0 .1 .1
-                      .1 .1 .1 .0,
-                  ((LL.lawful (T.the-type (α κs)) (T′.the-laws (α κs)) 𝓤 H A W) .typed self _ self-is .0 .1 .1 .1 .1 .1 .1 .0, tt),
-                ),
-              ),
-            ),
-          )) $
+          assigns ! (agg ! (and-then ! (load ! (from ! (stop !)) (look ! 12 refl)) (and-then ! (load ! (from ! (stop !)) (look ! 10 refl)) (and-then !
+          (load ! (from ! (stop !)) (look ! 8 refl)) (and-then ! (load ! (from ! (stop !)) (look ! 6 refl)) (no-more !)))))) (from ! (stop !)) (init !
+          14 refl (tt, ((self-typed .1 .1 .0) ▹ (self-typed .1 .1 .1 .0) ▹ (self-typed .1 .1 .1 .1 .0) ▹ (self-typed .1 .1 .1 .1 .1 .0) ▹ tt))) $
           -- the bands, and what is lent to write
           assigns ! (of-opd ! (load ! (from ! (fld ! refl (stop !))) (look-in ! 20 (sub ! 0 refl (whole !))))) (from ! (stop !)) (init ! 4 refl (
             tt,
-            (LL.lawful (T.the-type (α κs)) (T′.the-laws (α κs)) 𝓤 H A W) .typed self _ self-is .0 .1 .0,
+            (self-typed .0),
           )) $
           assigns ! (of-opd ! (load ! (from ! (fld ! refl (stop !))) (look-in ! 20 (sub ! 1 refl (whole !))))) (from ! (stop !)) (init ! 2 refl (
             tt,
-            (LL.lawful (T.the-type (α κs)) (T′.the-laws (α κs)) 𝓤 H A W) .typed self _ self-is .0 .1 .1 .0,
+            (self-typed .1 .0),
           )) $
           assigns ! (addr ! (from ! (hop ! (look ! 16 refl) (stop !)))) (from ! (stop !)) (init ! 0 refl (tt, tt)) $
           -- the call
-          move ! (24 ∷ []) $ use1 W (raw (C-read 𝓤 H A mem run .pre to)) asked $ calls-at ! fm (C-read 𝓤 H A mem run) known-read to (and-then ! (load ! (from
-          ! (stop !)) (look ! 5 refl)) (and-then ! (load ! (from ! (stop !)) (look ! 3 refl)) (and-then ! (load ! (from ! (stop !)) (look ! 15 refl))
-          (and-then ! (load ! (from ! (stop !)) (look ! 19 refl)) (and-then ! (load ! (from ! (stop !)) (look ! 1 refl)) (no-more !))))))
-          (λ u. use1 W (later (some (λ (r : RefT (List ℕ)). ((‵ (flft κ₀ q₀) ⊛ ‵ (flft κ₁ q₁) ⊛ ‵ ftrue) ⊛ ‵ ((ShrSlice (named 0) κ₀ u16) .own r (u ∷ []))) ⊛
-          raw (ensured 𝓤 H A read.ended (read.clauses 𝓤 H A mem run) κs ca tt r)))) (id⊢ 𝓤 _) $ await ! tt $ pick ! (λ r.
-          split ! $ move ! (1 ∷ []) $ use1 W (some (λ (ws : (Unit {0} × (Unit {0} × (Unit {0} × (Unit {0} × (ℕ × Unit {0})))))). ‵ (lasts read.ended κs ca ws)
-          ⊛ raw (fact 𝓤 (Said r ws)))) (id⊢ 𝓤 _) $ pick ! (λ ws. split ! $ move ! (1 ∷ []) $ heard ! (Said r ws) (λ e. move ! (1 ∷ []) $ split ! $ move ! (1 ∷
-          []) $
+          move ! (24 ∷ []) $ use1 W (raw (C-read 𝓤 H A mem run .pre to)) asked $
+          calls-at ! fm (C-read 𝓤 H A mem run) known-read to (and-then ! (load ! (from ! (stop !)) (look ! 5 refl)) (and-then ! (load ! (from ! (stop
+          !)) (look ! 3 refl)) (and-then ! (load ! (from ! (stop !)) (look ! 15 refl)) (and-then ! (load ! (from ! (stop !)) (look ! 19 refl)) (and-then
+          ! (load ! (from ! (stop !)) (look ! 1 refl)) (no-more !))))))
+          (λ u. use1 W (later (some (λ (r : RefT (List ℕ)). ((‵ (flft κ₀ q₀) ⊛ ‵ (flft κ₁ q₁) ⊛ ‵ ftrue) ⊛ ‵ ((ShrSlice (named 0) κ₀ u16) .own r (u ∷
+          []))) ⊛ raw (ensured 𝓤 H A read.ended (read.clauses 𝓤 H A mem run) κs ca tt r)))) (id⊢ 𝓤 _) $ await ! tt $ pick ! (λ r.
+          split ! $ move ! (1 ∷ []) $
+          use1 W (some (λ (ws : Lasts read.ended κs ca). ‵ (lasts read.ended κs ca ws) ⊛ raw (fact 𝓤 (Said r ws)))) (id⊢ 𝓤 _) $ pick ! (λ ws. split ! $
+          move ! (1 ∷ []) $ heard ! (Said r ws) (λ e. move ! (1 ∷ []) $ split ! $ move ! (1 ∷ []) $
           peeks ! (ShrSlice (named 0) κ₀ u16) (Is (ShrSlice (named 0) κ₀ u16)) (shows 𝓤 H A (ShrSlice (named 0) κ₀ u16)) r (u ∷ []) (λ is.
           land ! (from ! (stop !)) (init ! 25 refl ((shr-slice-lawful 𝓤 H A W (named 0) κ₀ u16) .typed r _ is .0)) $ returns ! (look ! 25 refl) $
-          forget ! 3 refl $ forget ! 5 refl $ forget ! 7 refl $ forget ! 9 refl $ forget ! 11 refl $ forget ! 13 refl $ forget ! 15 refl $ forget ! 17 refl $
-          forget ! 19 refl $ forget ! 21 refl $ forget ! 23 refl $ forget ! 25 refl $
-          move ! (25 ∷ 26 ∷ []) $ free1 ! $ move ! (23 ∷ 24 ∷ []) $ free1 ! $ move ! (21 ∷ 22 ∷ []) $ free1 ! $ move ! (19 ∷ 20 ∷ []) $ free1 ! $ move ! (17 ∷
-          18 ∷ []) $ free1 ! $ move ! (15 ∷ 16 ∷ []) $ free1 ! $ move ! (13 ∷ 14 ∷ []) $ free1 ! $ move ! (11 ∷ 12 ∷ []) $ free1 ! $ move ! (9 ∷ 10 ∷ []) $
-          free1 ! $ move ! (7 ∷ 8 ∷ []) $ free1 ! $ move ! (5 ∷ 6 ∷ []) $ free1 ! $ move ! (3 ∷ 4 ∷ []) $ free1 ! $ free0 ! $
+          forget ! 3 refl $ forget ! 5 refl $ forget ! 7 refl $ forget ! 9 refl $ forget ! 11 refl $ forget ! 13 refl $ forget ! 15 refl $
+          forget ! 17 refl $ forget ! 19 refl $ forget ! 21 refl $ forget ! 23 refl $ forget ! 25 refl $
+          move ! (25 ∷ 26 ∷ []) $ free1 ! $ move ! (23 ∷ 24 ∷ []) $ free1 ! $ move ! (21 ∷ 22 ∷ []) $ free1 ! $ move ! (19 ∷ 20 ∷ []) $ free1 ! $
+          move ! (17 ∷ 18 ∷ []) $ free1 ! $ move ! (15 ∷ 16 ∷ []) $ free1 ! $ move ! (13 ∷ 14 ∷ []) $ free1 ! $ move ! (11 ∷ 12 ∷ []) $ free1 ! $
+          move ! (9 ∷ 10 ∷ []) $ free1 ! $ move ! (7 ∷ 8 ∷ []) $ free1 ! $ move ! (5 ∷ 6 ∷ []) $ free1 ! $ move ! (3 ∷ 4 ∷ []) $ free1 ! $ free0 ! $
           by ! (exits r u ws e))))))))))))))))))
 
 -- the walk at every choice of lifetimes and arguments, and from it the function's statement
 module _ {M : Type 1} (𝓤 : URA M) (H : Heap 𝓤) (A : Atoms 𝓤) (W : Given 𝓤 H A) (mem : Memory → SProp 𝓤) (run : Routine → Fun 𝓤) where
   me-walks :
-      (C : Calls 𝓤 H) (Λ : Loops 𝓤 H) → FmC 𝓤 H (W .laws) C → Triple 𝓤 (C #samples·row-read) (C-read 𝓤 H A mem run) → Walks 𝓤 H A me.ended stayed (WpFn 𝓤 H C
-      Λ code.function) (me.clauses 𝓤 H A mem run)
+      (C : Calls 𝓤 H) (Λ : Loops 𝓤 H) → FmC 𝓤 H (W .laws) C → Triple 𝓤 (C #samples·row-read) (C-read 𝓤 H A mem run) → Walks 𝓤 H A me.ended stayed (WpFn
+      𝓤 H C Λ code.function) (me.clauses 𝓤 H A mem run)
   me-walks C Λ fm known-read =
-      walked 𝓤 H A me.ended stayed (me.clauses 𝓤 H A mem run) (WpFn 𝓤 H C Λ code.function) (λ κs. (
-        LL.vals (T.the-type (α κs)) (T′.the-laws (α κs)),
-        (uint-vals w64, (ptr-vals, tt)),
-      )) (λ κs. (
-        LL.tells (T.the-type (α κs)) (T′.the-laws (α κs)),
-        (
-          uint-tells w64,
-          (
-            mut-tells (named 1) (κs .1 .0) u32,
-            tt,
-          ),
-        ),
-      )) (λ κs qs bounds a g are. via 𝓤 _ (fst∗ 𝓤 _ (emp 𝓤)) (walk 𝓤 H A W mem run (κs .0) (κs .1 .0) (qs .0) (qs .1 .0) (a .0) (a .1 .0) (a .1 .1 .0)
+      walked 𝓤 H A me.ended stayed (me.clauses 𝓤 H A mem run) (WpFn 𝓤 H C Λ code.function) (λ κs. (LL.vals (T.the-type (α κs)) (T′.the-laws (α κs)) ▹
+      uint-vals w64 ▹ ptr-vals ▹ tt)) (λ κs. (LL.tells (T.the-type (α κs)) (T′.the-laws (α κs)) ▹ uint-tells w64 ▹ mut-tells (named 1) (κs .1 .0) u32 ▹
+      tt)) (λ κs qs bounds a g are. via 𝓤 _ (fst∗ 𝓤 _ (emp 𝓤)) (walk 𝓤 H A W mem run (κs .0) (κs .1 .0) (qs .0) (qs .1 .0) (a .0) (a .1 .0) (a .1 .1 .0)
       (are .0) (are .1 .0) (are .1 .1 .0) C Λ fm known-read))
 
 me-meets :
-    {M : Type 1} (𝓤 : URA M) (H : Heap 𝓤) (A : Atoms 𝓤) (W : Given 𝓤 H A) (mem : Memory → SProp 𝓤) (run : Routine → Fun 𝓤) (𝓣 : Tables 𝓤 H) → Triple 𝓤 (𝓣 .C
-    #samples·row-read) (C-read 𝓤 H A mem run) → Meets 𝓤 H A me.signature (WpFn 𝓤 H (𝓣 .C) (𝓣 .Λ) code.function) (me.spec 𝓤 H A mem run)
+    {M : Type 1} (𝓤 : URA M) (H : Heap 𝓤) (A : Atoms 𝓤) (W : Given 𝓤 H A) (mem : Memory → SProp 𝓤) (run : Routine → Fun 𝓤) (𝓣 : Tables 𝓤 H) → Triple 𝓤
+    (𝓣 .C #samples·row-read) (C-read 𝓤 H A mem run) → Meets 𝓤 H A me.signature (WpFn 𝓤 H (𝓣 .C) (𝓣 .Λ) code.function) (me.spec 𝓤 H A mem run)
 me-meets 𝓤 H A W mem run 𝓣 known-read =
-    walk-meets 𝓤 H A me.ended stayed W (
-      goes-dropped 𝓤 H A W 2 (plain (λ κs. T.the-row (α κs))) yes (λ κs x f. refl),
-      (
-        goes-dropped 𝓤 H A W 2 (plain (λ κs.
-            usize)) yes (λ κs x f. refl),
-        (goes-gave-ref 𝓤 H A W 2 1 tt (plain (λ _. u32)), tt),
-      ),
-    ) (me.clauses 𝓤 H A mem run) (WpFn 𝓤 H (𝓣 .C) (𝓣 .Λ) code.function)
-    (WpFn-mono 𝓤 H (W .laws) 𝓣 code.function) (me-walks 𝓤 H A W mem run (𝓣 .C) (𝓣 .Λ) (fmOf 𝓤 H (W .laws) 𝓣) known-read)
+    walk-meets 𝓤 H A me.ended stayed W (goes-dropped 𝓤 H A W 2 (plain (λ κs. T.the-row (α κs))) yes (λ κs x f. refl) ▹ goes-dropped 𝓤 H A W 2 (plain (λ
+    κs. usize)) yes (λ κs x f. refl) ▹ goes-gave-ref 𝓤 H A W 2 1 tt (plain (λ _. u32)) ▹ tt) (me.clauses 𝓤 H A mem run) (WpFn 𝓤 H (𝓣 .C) (𝓣 .Λ)
+    code.function) (WpFn-mono 𝓤 H (W .laws) 𝓣 code.function) (me-walks 𝓤 H A W mem run (𝓣 .C) (𝓣 .Λ) (fmOf 𝓤 H (W .laws) 𝓣) known-read)
 
 pub row-spec : {M : Type 1} → stated.statement M
 unfolding code.routine tablesOf
