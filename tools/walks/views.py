@@ -158,8 +158,8 @@ class View:
         self.module, self.name, self.size, self.fields = module, name, size, fields
         self.denot, self.row, self.slotted = name, "(T.the-row (α κs))", "T.the-row (α κs)"
         self.spell = self.tell = None
-        self.lawful = "(LL.lawful (T.the-type (α κs)) (T′.the-laws (α κs)) 𝓤 H A W)"
-        self.spell, self.tell = (f"LL.{w} (T.the-type (α κs)) (T′.the-laws (α κs))" for w in ("vals", "tells"))
+        self.lawful = "(LL.lawful (D κs) (L κs) 𝓤 H A W)"
+        self.spell, self.tell = (f"LL.{w} (D κs) (L κs)" for w in ("vals", "tells"))
 
     def val(self, n):
         return f"(T′.lowered {n})"
@@ -238,8 +238,7 @@ class Ctx:
 
     def twice(self, p):
         self.front(p.name)
-        own = f"‵ ({p.own()})"
-        self.step(f"use1 W ({own} ⊛ {own}) (shr-slice-copy 𝓤 H A W (named 0) κ₀ u16 .twice {p.name} ({p.val()} ∷ [])) $ split ! $")
+        self.step(f"doubled ! (named 0) κ₀ {p.name} $")
         self.names = [p.name] + self.names
 
     def list_of(self, ps):
@@ -307,7 +306,9 @@ class Walk:
         p = f"Rattle.{CRATE}.proofs.{self.path}"
         lines += [f"use {p} as me", f"use {p}.Key.{{name as #{self.key}}}", f"use {p}.Statement as stated", f"use {p}.Code as code"]
         out += "\n".join(lines) + "\n\n"
-        out += decl(0, "α", f"Lfts {self.n} → NamedLft", f"namedLft {self.n} 0 tt κs", "the view's lifetime").replace("α = ", "α κs = ")
+        out += decl(0, "α", f"Lfts {self.n} → NamedLft", f"namedLft {self.n} 0 tt κs", "the view's lifetime, its type and its laws").replace("α = ", "α κs = ")
+        out += decl(0, "D", f"Lfts {self.n} → Declared", "T.the-type (α κs)").replace("D = ", "D κs = ")
+        out += decl(0, "L", f"(κs : Lfts {self.n}) → LL.Laws (D κs)", "T′.the-laws (α κs)").replace("L = ", "L κs = ")
         out += decl(0, "stayed", "Stays (me.ended .signature .params) (me.ended .kept)", tup(p.stay() for p in self.ps),
                     "what is had of each parameter when the function returns: of what it was lent to write, the last value; of the rest, nothing")
         if self.callees:
@@ -323,6 +324,7 @@ class Walk:
         out += decl(2, "κs", f"Lfts {self.n}", tup(f"κ{sub(i)}" for i in range(self.n)))
         out += decl(2, "a", "Args me.signature κs", tup(p.name for p in self.ps))
         out += decl(2, "vals", "Vals me.signature κs", tup(p.val() + " ∷ []" for p in self.ps))
+        out += decl(2, "machine", "List Val", seq(p.val() for p in self.ps))
         out += decl(2, "entry", "SProp 𝓤", f"onEntry 𝓤 H A me.signature κs {self.qs} a vals", "what the function has when it starts, and what it owes")
         out += decl(2, "Post", "Val → SProp 𝓤", f"walkOf 𝓤 H A me.ended stayed (me.clauses 𝓤 H A mem run) .post {self.ghost}")
         return out
@@ -370,7 +372,7 @@ unfolding code.routine tablesOf
         """The locals are allocated and the parameters passed; local j then stands at 2 × (n - 1 - j)."""
         self.locals = n
         self.place = lambda j, shift=0: shift + 2 * (n - 1 - j)
-        lines = [f"qed W (raw entry ∷ []) ∵ enter ! C Λ code.function {seq(p.val() for p in self.ps)} _ $",
+        lines = [f"qed W (raw entry ∷ []) ∵ enter ! C Λ code.function machine _ $",
                  " ".join(f"alloc1 ! (λ l{sub(i)}." for i in range(n)) + " alloc0 ! $ params1 ! $"]
         for j, p in enumerate(self.ps, 1):
             lines.append(f"pass1 ! (init ! {self.place(j)} refl ({p.kind.lawful} .typed {p.name} _ {p.is_} .0)) $")
@@ -380,14 +382,14 @@ unfolding code.routine tablesOf
         look = lambda i: f"(load ! (from ! (fld ! refl (stop !))) (look-in ! {self.place(j, shift)} (sub ! {i} refl (whole !))))"
         if isinstance(p.kind, MutNum):
             return [f"assigns ! (addr ! (from ! (hop ! (look ! {self.place(j, shift)} refl) (stop !)))) (from ! (stop !))"
-                    f" (init ! {self.place(to, shift)} refl (tt, tt)) $"]
+                    f" (init ! {self.place(to, shift)} refl (tt ▹ tt)) $"]
         return [f"assigns ! (addr ! (from ! (fld ! refl (hop ! (look-in ! {self.place(j, shift)} (sub ! 0 refl (whole !))) (stop !))))) (from ! (stop !))"
-                f" (init ! {self.place(to, shift)} refl (tt, tt)) $",
-                f"assigns ! (agg ! (and-then ! (load ! (from ! (stop !)) (look ! {self.place(to, shift)} refl)) (and-then ! {look(1)} (no-more !))))"
+                f" (init ! {self.place(to, shift)} refl (tt ▹ tt)) $",
+                f"assigns ! (agg ! (and-then ! (local-at ! {self.place(to, shift)} refl) (and-then ! {look(1)} (no-more !))))"
                 f" (from ! (stop !)) (init ! {self.place(to + 1, shift)} refl ({p.kind.typed('erased')} .typed {p.name} _ {p.is_} .0)) $"]
 
     def operands(self, places):
-        return "".join(f"(and-then ! (load ! (from ! (stop !)) (look ! {i} refl)) " for i in places) + "(no-more !)" + ")" * len(places)
+        return "".join(f"(and-then ! (local-at ! {i} refl) " for i in places) + "(no-more !)" + ")" * len(places)
 
     def frees(self, shift):
         n = self.locals
@@ -407,7 +409,7 @@ unfolding code.routine tablesOf
 
     def code(self, assumed, lines):
         out = block(f"module _ {assumed} where", 4)
-        out += block("walk : " + f"ent 𝓤 entry (WpFn 𝓤 H C Λ code.function {seq(p.val() for p in self.ps)} Post)", 6)
+        out += "      walk : ent 𝓤 entry (WpFn 𝓤 H C Λ code.function machine Post)\n"
         out += "      walk =\n"
         for line in lines:
             out += line if line.startswith("          --") else wrap(line, 10)
@@ -502,10 +504,10 @@ def made(path, view):
     out += "    exits : ent 𝓤 entry (Post (T′.lowered made))\n    exits =\n" + wrap(f"qed W {w.entry()} ∵", 8)
     out += wrap(f"suffices ! _ (ends-at 𝓤 H A me.ended stayed (me.clauses 𝓤 H A mem run) W {w.ghost} (T′.lowered made) made"
                 f" {tup('tt' for _ in ps)} {tup('tt' for _ in ps)}) $ says ! refl $", 8)
-    out += wrap(f"{x.text()} by ! (own-shut 𝓤 H A W (T.the-type (α κs)) (T′.the-laws (α κs)) (T.struct (α κs) .as-values made))", 8) + "\n"
+    out += wrap(f"{x.text()} by ! (own-shut 𝓤 H A W (D κs) (L κs) (T.struct (α κs) .as-values made))", 8) + "\n"
     n = 1 + len(ps)
     lines = w.enter(n)
-    lines += [f"assigns ! (agg ! {w.operands([w.place(j) for j in range(1, n)])}) (from ! (stop !)) (init ! {w.place(0)} refl (tt,"
+    lines += [f"assigns ! (agg ! {w.operands([w.place(j) for j in range(1, n)])}) (from ! (stop !)) (init ! {w.place(0)} refl (tt ▹"
               f" {tup(f'{p.kind.lawful} .typed {p.name} _ {p.is_} .0 .1' for p in ps)})) $",
               f"returns ! (look ! {w.place(0)} refl) $"] + w.frees(0) + ["by ! exits" + ")" * n]
     out += "    -- the code, statement by statement\n" + w.code("(C : Calls 𝓤 H) (Λ : Loops 𝓤 H)", lines)
@@ -519,18 +521,18 @@ def apart(path, view, lifetimes, params, callee, sizes, args, result, specs, sai
     views = [p for p in params if p.kind is view]
     field = lambda v, i: P(f"({v} .{view.fields[i][0]})", view.fields[i][1], at(f"{v}-fields", i))
     sized = [i for i, (_, k) in enumerate(view.fields) if not k.held]
-    size = lambda v: P(f"{v}-size", view.size, f"(LL.owes {view.size.name}.the-type {view.size.name}′.the-laws {v}-size"
-                       f" {tup(field(v, i).is_ for i in sized)})")
+    size = lambda v: P(f"{v}-size", view.size)
     cps = [named[a] if isinstance(a, str) else size(a[1]) if a[0] == "size" else field(a[1], a[2]) for a in args]
     for p in cps:
         if p.mutable():
-            said = said.replace(f"LAST {p.name}", at("ws", [c.name for c in cps].index(p.name)))
+            said = said.replace(f"(LAST {p.name})", at("ws", [c.name for c in cps].index(p.name)))
 
     out = w.header("it takes the view apart and asks the call below.") + w.section()
     for v in views:
         out += decl(2, f"{v.name}-size", view.size.name, "record { " + "; ".join(f"{view.fields[i][0]} = {field(v.name, i).name}" for i in sized) + " }")
     out += decl(2, "ca", f"Args {callee.alias}.signature κs", tup(p.name for p in cps), "what is handed down")
-    out += decl(2, "to", f"{callee.contract()} .Ghost", f"((κs, {w.qs}, tt, ca, {tup(p.val() + ' ∷ []' for p in cps)}), tt)")
+    out += decl(2, "handed", f"Vals {callee.alias}.signature κs", tup(p.val() + " ∷ []" for p in cps))
+    out += decl(2, "to", f"{callee.contract()} .Ghost", f"((κs, {w.qs}, tt, ca, handed), tt)")
     out += decl(2, "Said", f"{w.r.kind.denot} → Lasts {callee.alias}.ended κs ca → Type 0", said, "what the callee ensures, at the view").replace("Said =", "Said r ws =")
     out += w.relations()
 
@@ -539,7 +541,7 @@ def apart(path, view, lifetimes, params, callee, sizes, args, result, specs, sai
     x.parts(params)
     for v in views:
         x.front(v.name)
-        x.step(f"opened ! (T.the-type (α κs)) (T′.the-laws (α κs)) (T.struct (α κs) .as-values {v.name}) $")
+        x.step(f"opened ! (D κs) (L κs) (T.struct (α κs) .as-values {v.name}) $")
         x.parts([field(v.name, i) for i in range(len(view.fields))])
     for v in views:
         for i, (_, k) in enumerate(view.fields):
@@ -549,7 +551,11 @@ def apart(path, view, lifetimes, params, callee, sizes, args, result, specs, sai
     x.list_of(cps)
     x.front("tokens", "list")
     x.step("join ! $ frame ! $ done !")
-    lets = [f"let {v.name}-fields = LL.owed (T.the-type (α κs)) (T′.the-laws (α κs)) {v.name} _ {v.is_} in" for v in views]
+    lets = []
+    for v in views:
+        lets += [f"let {v.name}-fields = LL.owed (D κs) (L κs) {v.name} _ {v.is_} in",
+                 f"let {v.name}-size-is = LL.owes {view.size.name}.the-type {view.size.name}′.the-laws {v.name}-size"
+                 f" {tup(field(v.name, i).is_ for i in sized)} in"]
     out += "    -- what the view and the other parameters own is what the callee asks\n"
     out += f"    asked : ent 𝓤 entry ({callee.contract()} .pre to)\n    asked =\n"
     out += "".join(wrap(t, 8) for t in lets) + wrap(f"qed W {w.entry()} ∵", 8) + wrap(x.text(), 8) + "\n"
@@ -581,11 +587,11 @@ def apart(path, view, lifetimes, params, callee, sizes, args, result, specs, sai
     lines[:0] = [f"let {v.name}-typed = {view.lawful} .typed {v.name} _ {v.is_} .0 .1 in" for v in views]
     typed = lambda v, i: at(f"{v}-typed", i)
     copy = lambda v, i, to: (f"assigns ! (of-opd ! (load ! (from ! (fld ! refl (stop !))) (look-in ! {w.place(index[v])} (sub ! {i} refl (whole !)))))"
-                             f" (from ! (stop !)) (init ! {w.place(to)} refl (tt, {typed(v, i)})) $")
+                             f" (from ! (stop !)) (init ! {w.place(to)} refl (tt ▹ {typed(v, i)})) $")
     for v, to, parts in copied:
         lines.append(f"          -- {v}'s size\n")
         lines += [copy(v, i, j) for i, j in parts]
-        lines.append(f"assigns ! (agg ! {w.operands([w.place(j) for _, j in parts])}) (from ! (stop !)) (init ! {w.place(to)} refl (tt,"
+        lines.append(f"assigns ! (agg ! {w.operands([w.place(j) for _, j in parts])}) (from ! (stop !)) (init ! {w.place(to)} refl (tt ▹"
                      f" {tup(typed(v, i) for i, _ in parts)})) $")
     lines.append("          -- the bands, and what is lent to write\n")
     for a, j in again:
@@ -607,14 +613,15 @@ def above(path, view, lifetimes, params, new, callee, rest, result, specs, said)
     cps = [P("made", view)] + [named[a] for a in rest]
     lent = [p for p in params if p.mutable()]
     for p in lent:
-        said = said.replace(f"LAST {p.name}", at("ws", [c.name for c in cps].index(p.name)))
+        said = said.replace(f"(LAST {p.name})", at("ws", [c.name for c in cps].index(p.name)))
     handed = lambda v: tup((v if p.kind is view else p.val()) + " ∷ []" for p in cps)
 
     out = w.header("it makes a view in a local and passes it on.") + w.section()
     out += decl(2, "made", view.name, "record { " + "; ".join(f"{f} = {p.name}" for (f, _), p in zip(view.fields, group)) + " }")
     out += decl(2, "αᵉ", "NamedLft", "record { mir = erased; lft = κ₀ }", "the lifetime of a local that holds the view")
     out += decl(2, "na", f"Args {new.alias}.signature (κ₀ ▹ tt)", tup(p.name for p in group), "what is handed to `new`, and to the call")
-    out += decl(2, "to-new", f"{new.contract()} .Ghost", f"((κ₀ ▹ tt, q₀ ▹ tt, tt, na, {tup(p.val() + ' ∷ []' for p in group)}), tt)")
+    out += decl(2, "new-handed", f"Vals {new.alias}.signature (κ₀ ▹ tt)", tup(p.val() + " ∷ []" for p in group))
+    out += decl(2, "to-new", f"{new.contract()} .Ghost", "((κ₀ ▹ tt, q₀ ▹ tt, tt, na, new-handed), tt)")
     out += decl(2, "ca", f"Args {callee.alias}.signature κs", tup(p.name for p in cps))
     out += decl(2, "to", f"Val → {callee.contract()} .Ghost", f"((κs, {w.qs}, tt, ca, {handed('v')}), tt)").replace("to =", "to v =")
     out += decl(2, "Said", f"{w.r.kind.denot} → Lasts {callee.alias}.ended κs ca → Type 0", said, "what the callee ensures, at what the view was made of")\
@@ -636,7 +643,7 @@ def above(path, view, lifetimes, params, new, callee, rest, result, specs, said)
     x.names[:2] = ["tokens"]
     x.list_of(group)
     x.front("tokens", "list")
-    owned = f"‵ (owns {seq(p.kind.row for p in group)} na {tup(p.val() + ' ∷ []' for p in group)})"
+    owned = f"‵ (owns {seq(p.kind.row for p in group)} na new-handed)"
     x.step(f"use2 W (raw ({new.contract()} .pre to-new)) (qed W ({tokens([0])} ∷ {owned} ∷ []) ∵ join ! $ frame ! $ done !) $")
     x.names[:2] = ["pre"]
     x.front("pre", *[n for n, _ in items])

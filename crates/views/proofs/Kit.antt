@@ -31,6 +31,7 @@ pub use denote.Ref.{RefT, NamedLft, MutRef, ptr-vals, mut-tells, mut-lawful, now
 pub use denote.Signature.{plain, namedLft, shrSliceOf}
 pub use denote.Slice.{sliceVal, MutSlice, ShrSlice, slice-vals, shr-slice-tells, shr-slice-lawful, shr-slice-copy, mut-slice-tells, mut-slice-lawful}
 pub use denote.Steps.{owned, peeks, heard, nothing}
+pub use denote.Struct.Declared.{Declared}
 pub use denote.Struct.Laws as LL
 pub use denote.Struct.Rest.{all-own, own-open, own-shut}
 pub use denote.Triple.Statement.{Contract, Triple}

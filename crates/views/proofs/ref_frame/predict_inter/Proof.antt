@@ -6,10 +6,10 @@ use Rattle.views.proofs.Kit.{‵, raw, _⊛_, ⋆, some, later, _$_, _�
 use Rattle.views.proofs.Kit.{suffices, frame, await, done, agg, whole, sub, look-in, look, init, forget, stop, hop, fld, from, load, addr}
 use Rattle.views.proofs.Kit.{of-opd, and-then, no-more, assigns, land, returns, enter, alloc1, alloc0, params1, pass1, pass0, free1, free0, FmC}
 use Rattle.views.proofs.Kit.{fmOf, WpFn-mono, owns, Is, shows, uint-lawful, u16, u32, RefT, NamedLft, now, plain, namedLft, sliceVal, MutSlice}
-use Rattle.views.proofs.Kit.{slice-vals, mut-slice-tells, mut-slice-lawful, peeks, heard, nothing, Contract, Triple, calls-at, Args, Vals}
-use Rattle.views.proofs.Kit.{onEntry, Meets, tripleOf, entered, cited, says, Stays, stay-dropped, gave-slice, walkOf, goes-dropped}
+use Rattle.views.proofs.Kit.{slice-vals, mut-slice-tells, mut-slice-lawful, peeks, heard, nothing, Declared, Contract, Triple, calls-at, Args}
+use Rattle.views.proofs.Kit.{Vals, onEntry, Meets, tripleOf, entered, cited, says, Stays, stay-dropped, gave-slice, walkOf, goes-dropped}
 use Rattle.views.proofs.Kit.{goes-gave-slice, Walks, ends-at, walked, walk-meets, yes, Lasts, ensured, lasts}
-use Rattle.views.proofs.Steps.{_▹_, without, aside, none, fresh, opened}
+use Rattle.views.proofs.Steps.{_▹_, without, aside, none, fresh, opened, local-at}
 use Rattle.views.proofs.Kit.LL
 use Rattle.prediction.specs.Predict
 use Rattle.views.specs.Seen.{frameSource}
@@ -42,9 +42,15 @@ use Rattle.views.proofs.ref_frame.predict_inter.Key.{name as #views·re
 use Rattle.views.proofs.ref_frame.predict_inter.Statement as stated
 use Rattle.views.proofs.ref_frame.predict_inter.Code as code
 
--- the view's lifetime
+-- the view's lifetime, its type and its laws
 abbrev α : Lfts 3 → NamedLft
 α κs = namedLft 3 0 tt κs
+
+abbrev D : Lfts 3 → Declared
+D κs = T.the-type (α κs)
+
+abbrev L : (κs : Lfts 3) → LL.Laws (D κs)
+L κs = T′.the-laws (α κs)
 
 -- what is had of each parameter when the function returns: of what it was lent to write, the last value; of the rest, nothing
 abbrev stayed : Stays (me.ended .signature .params) (me.ended .kept)
@@ -70,6 +76,11 @@ module _ {M : Type 1} (𝓤 : URA M) (H : Heap 𝓤) (A : Atoms 𝓤) (W : Given
       ((InterPredArgs′.lowered args) ∷ [] ▹ (BlockGrid′.lowered grid) ∷ [] ▹ (FrameGeom′.lowered current) ∷ [] ▹ (Vectors.val mvs) ∷ [] ▹ (T′.lowered
       one) ∷ [] ▹ (T′.lowered two) ∷ [] ▹ (sliceVal (room .ptr) (length (room .now))) ∷ [] ▹ (sliceVal (out .ptr) (length (out .now))) ∷ [] ▹
       (DestGeom′.lowered dest) ∷ [] ▹ tt)
+
+  abbrev machine : List Val
+  machine =
+      ((InterPredArgs′.lowered args) ∷ (BlockGrid′.lowered grid) ∷ (FrameGeom′.lowered current) ∷ (Vectors.val mvs) ∷ (T′.lowered one) ∷ (T′.lowered
+      two) ∷ (sliceVal (room .ptr) (length (room .now))) ∷ (sliceVal (out .ptr) (length (out .now))) ∷ (DestGeom′.lowered dest) ∷ [])
 
   -- what the function has when it starts, and what it owes
   abbrev entry : SProp 𝓤
@@ -100,27 +111,22 @@ module _ {M : Type 1} (𝓤 : URA M) (H : Heap 𝓤) (A : Atoms 𝓤) (W : Given
   abbrev ca : Args predict.signature κs
   ca = (args ▹ grid ▹ current ▹ mvs ▹ one-size ▹ (one .upper) ▹ (one .lower) ▹ two-size ▹ (two .upper) ▹ (two .lower) ▹ room ▹ out ▹ dest ▹ tt)
 
+  abbrev handed : Vals predict.signature κs
+  handed =
+      ((InterPredArgs′.lowered args) ∷ [] ▹ (BlockGrid′.lowered grid) ∷ [] ▹ (FrameGeom′.lowered current) ∷ [] ▹ (Vectors.val mvs) ∷ [] ▹
+      (RefGeom′.lowered one-size) ∷ [] ▹ (sliceVal ((one .upper) .ptr) (length ((one .upper) .now))) ∷ [] ▹ (sliceVal ((one .lower) .ptr) (length ((one
+      .lower) .now))) ∷ [] ▹ (RefGeom′.lowered two-size) ∷ [] ▹ (sliceVal ((two .upper) .ptr) (length ((two .upper) .now))) ∷ [] ▹ (sliceVal ((two
+      .lower) .ptr) (length ((two .lower) .now))) ∷ [] ▹ (sliceVal (room .ptr) (length (room .now))) ∷ [] ▹ (sliceVal (out .ptr) (length (out .now))) ∷
+      [] ▹ (DestGeom′.lowered dest) ∷ [] ▹ tt)
+
   abbrev to : C-predict 𝓤 H A mem run .Ghost
-  to = (
-    (
-      κs,
-      (q₀ ▹ q₁ ▹ q₂ ▹ tt),
-      tt,
-      ca,
-      ((InterPredArgs′.lowered args) ∷ [] ▹ (BlockGrid′.lowered grid) ∷ [] ▹ (FrameGeom′.lowered current) ∷ [] ▹
-          (Vectors.val mvs) ∷ [] ▹ (RefGeom′.lowered one-size) ∷ [] ▹ (sliceVal ((one .upper) .ptr) (length ((one .upper) .now))) ∷ [] ▹ (sliceVal ((one
-          .lower) .ptr) (length ((one .lower) .now))) ∷ [] ▹ (RefGeom′.lowered two-size) ∷ [] ▹ (sliceVal ((two .upper) .ptr) (length ((two .upper) .now)))
-          ∷ [] ▹ (sliceVal ((two .lower) .ptr) (length ((two .lower) .now))) ∷ [] ▹ (sliceVal (room .ptr) (length (room .now))) ∷ [] ▹ (sliceVal (out .ptr)
-          (length (out .now))) ∷ [] ▹ (DestGeom′.lowered dest) ∷ [] ▹ tt),
-    ),
-    tt,
-  )
+  to = ((κs, (q₀ ▹ q₁ ▹ q₂ ▹ tt), tt, ca, handed), tt)
 
   -- what the callee ensures, at the view
   abbrev Said : ℕ → Lasts predict.ended κs ca → Type 0
   Said r ws =
-      Predict.Outcome (Predict.whole args grid current mvs (frameSource one) (frameSource two) dest) (now out) (now room) r ((ws .1 .1 .1 .1 .1 .1 .1 .1
-      .1 .1 .1 .0)) ((ws .1 .1 .1 .1 .1 .1 .1 .1 .1 .1 .0))
+      Predict.Outcome (Predict.whole args grid current mvs (frameSource one) (frameSource two) dest) (now out) (now room) r (ws .1 .1 .1 .1 .1 .1 .1 .1
+      .1 .1 .1 .0) (ws .1 .1 .1 .1 .1 .1 .1 .1 .1 .1 .0)
 
   module _ (args-is : Is InterPredArgs.the-row args ((InterPredArgs′.lowered args) ∷ []))
       (grid-is : Is BlockGrid.the-row grid ((BlockGrid′.lowered grid) ∷ []))
@@ -131,22 +137,22 @@ module _ {M : Type 1} (𝓤 : URA M) (H : Heap 𝓤) (A : Atoms 𝓤) (W : Given
     -- what the view and the other parameters own is what the callee asks
     asked : ent 𝓤 entry (C-predict 𝓤 H A mem run .pre to)
     asked =
-        let one-fields = LL.owed (T.the-type (α κs)) (T′.the-laws (α κs)) one _ one-is in
-        let two-fields = LL.owed (T.the-type (α κs)) (T′.the-laws (α κs)) two _ two-is in
+        let one-fields = LL.owed (D κs) (L κs) one _ one-is in
+        let one-size-is = LL.owes RefGeom.the-type RefGeom′.the-laws one-size ((one-fields .1 .1 .0) ▹ (one-fields .1 .1 .1 .0) ▹ (one-fields .1 .1 .1
+        .1 .0) ▹ (one-fields .1 .1 .1 .1 .1 .0) ▹ tt) in
+        let two-fields = LL.owed (D κs) (L κs) two _ two-is in
+        let two-size-is = LL.owes RefGeom.the-type RefGeom′.the-laws two-size ((two-fields .1 .1 .0) ▹ (two-fields .1 .1 .1 .0) ▹ (two-fields .1 .1 .1
+        .1 .0) ▹ (two-fields .1 .1 .1 .1 .1 .0) ▹ tt) in
         qed W ((‵ (flft κ₀ q₀) ⊛ ‵ (flft κ₁ q₁) ⊛ ‵ (flft κ₂ q₂) ⊛ ‵ ftrue) ∷ ‵ (owns (InterPredArgs.the-row ∷ BlockGrid.the-row ∷ FrameGeom.the-row ∷
         Vectors.row ∷ (T.the-row (α κs)) ∷ (T.the-row (α κs)) ∷ (MutSlice (named 1) κ₁ u16) ∷ (MutSlice (named 2) κ₂ u16) ∷ DestGeom.the-row ∷ []) a
         vals) ∷ []) ∵
         move ! (1 ∷ []) $ without ! $ without ! $ without ! $ without ! $ aside ! $ aside ! $ aside ! $ aside ! $ without ! $ drop ! $ move ! (3 ∷ []) $
-        opened ! (T.the-type (α κs)) (T′.the-laws (α κs)) (T.struct (α κs) .as-values one) $ aside ! $ aside ! $ without ! $ without ! $ without ! $
-        without ! $ drop ! $ move ! (4 ∷ []) $ opened ! (T.the-type (α κs)) (T′.the-laws (α κs)) (T.struct (α κs) .as-values two) $ aside ! $ aside ! $
-        without ! $ without ! $ without ! $ without ! $ drop ! $ nothing ! $
-        fresh ! DestGeom.the-row (LL.makes DestGeom.the-type DestGeom′.the-plain 𝓤 H A) dest dest-is $ move ! (5 ∷ 0 ∷ []) $ fjoin ! $
-        move ! (5 ∷ 0 ∷ []) $ fjoin ! $ move ! (1 ∷ 0 ∷ []) $ fjoin ! $ move ! (1 ∷ 0 ∷ []) $ fjoin ! $
-        fresh ! RefGeom.the-row (LL.makes RefGeom.the-type RefGeom′.the-plain 𝓤 H A) two-size (LL.owes RefGeom.the-type RefGeom′.the-laws two-size
-        ((two-fields .1 .1 .0) ▹ (two-fields .1 .1 .1 .0) ▹ (two-fields .1 .1 .1 .1 .0) ▹ (two-fields .1 .1 .1 .1 .1 .0) ▹ tt)) $ move ! (1 ∷ 0 ∷ []) $
-        fjoin ! $ move ! (1 ∷ 0 ∷ []) $ fjoin ! $
-        fresh ! RefGeom.the-row (LL.makes RefGeom.the-type RefGeom′.the-plain 𝓤 H A) one-size (LL.owes RefGeom.the-type RefGeom′.the-laws one-size
-        ((one-fields .1 .1 .0) ▹ (one-fields .1 .1 .1 .0) ▹ (one-fields .1 .1 .1 .1 .0) ▹ (one-fields .1 .1 .1 .1 .1 .0) ▹ tt)) $
+        opened ! (D κs) (L κs) (T.struct (α κs) .as-values one) $ aside ! $ aside ! $ without ! $ without ! $ without ! $ without ! $ drop ! $
+        move ! (4 ∷ []) $ opened ! (D κs) (L κs) (T.struct (α κs) .as-values two) $ aside ! $ aside ! $ without ! $ without ! $ without ! $ without ! $
+        drop ! $ nothing ! $ fresh ! DestGeom.the-row (LL.makes DestGeom.the-type DestGeom′.the-plain 𝓤 H A) dest dest-is $ move ! (5 ∷ 0 ∷ []) $
+        fjoin ! $ move ! (5 ∷ 0 ∷ []) $ fjoin ! $ move ! (1 ∷ 0 ∷ []) $ fjoin ! $ move ! (1 ∷ 0 ∷ []) $ fjoin ! $
+        fresh ! RefGeom.the-row (LL.makes RefGeom.the-type RefGeom′.the-plain 𝓤 H A) two-size two-size-is $ move ! (1 ∷ 0 ∷ []) $ fjoin ! $
+        move ! (1 ∷ 0 ∷ []) $ fjoin ! $ fresh ! RefGeom.the-row (LL.makes RefGeom.the-type RefGeom′.the-plain 𝓤 H A) one-size one-size-is $
         fresh ! Vectors.row (Vectors.makes 𝓤 H A W) mvs mvs-is $
         fresh ! FrameGeom.the-row (LL.makes FrameGeom.the-type FrameGeom′.the-plain 𝓤 H A) current current-is $
         fresh ! BlockGrid.the-row (LL.makes BlockGrid.the-type BlockGrid′.the-plain 𝓤 H A) grid grid-is $
@@ -169,15 +175,11 @@ module _ {M : Type 1} (𝓤 : URA M) (H : Heap 𝓤) (A : Atoms 𝓤) (W : Given
     -- the code, statement by statement
     module _ (C : Calls 𝓤 H) (Λ : Loops 𝓤 H) (fm : FmC 𝓤 H (W .laws) C)
         (known-predict : Triple 𝓤 (C #prediction·predict-inter) (C-predict 𝓤 H A mem run)) where
-      walk : ent 𝓤 entry (WpFn 𝓤 H C Λ code.function
-          ((InterPredArgs′.lowered args) ∷ (BlockGrid′.lowered grid) ∷ (FrameGeom′.lowered current) ∷ (Vectors.val mvs) ∷ (T′.lowered one) ∷ (T′.lowered two) ∷ (sliceVal (room .ptr) (length (room .now))) ∷ (sliceVal (out .ptr) (length (out .now))) ∷ (DestGeom′.lowered dest) ∷ [])
-          Post)
+      walk : ent 𝓤 entry (WpFn 𝓤 H C Λ code.function machine Post)
       walk =
-          let one-typed = (LL.lawful (T.the-type (α κs)) (T′.the-laws (α κs)) 𝓤 H A W) .typed one _ one-is .0 .1 in
-          let two-typed = (LL.lawful (T.the-type (α κs)) (T′.the-laws (α κs)) 𝓤 H A W) .typed two _ two-is .0 .1 in
-          qed W (raw entry ∷ []) ∵ enter ! C Λ code.function ((InterPredArgs′.lowered args) ∷ (BlockGrid′.lowered grid) ∷ (FrameGeom′.lowered current) ∷
-          (Vectors.val mvs) ∷ (T′.lowered one) ∷ (T′.lowered two) ∷ (sliceVal (room .ptr) (length (room .now))) ∷ (sliceVal (out .ptr) (length (out
-          .now))) ∷ (DestGeom′.lowered dest) ∷ []) _ $
+          let one-typed = (LL.lawful (D κs) (L κs) 𝓤 H A W) .typed one _ one-is .0 .1 in
+          let two-typed = (LL.lawful (D κs) (L κs) 𝓤 H A W) .typed two _ two-is .0 .1 in
+          qed W (raw entry ∷ []) ∵ enter ! C Λ code.function machine _ $
           alloc1 ! (λ l₀. alloc1 ! (λ l₁. alloc1 ! (λ l₂. alloc1 ! (λ l₃. alloc1 ! (λ l₄. alloc1 ! (λ l₅. alloc1 ! (λ l₆. alloc1 ! (λ l₇. alloc1 ! (λ
           l₈. alloc1 ! (λ l₉. alloc1 ! (λ l₁₀. alloc1 ! (λ l₁₁. alloc1 ! (λ l₁₂. alloc1 ! (λ l₁₃. alloc1 ! (λ l₁₄. alloc1 ! (λ l₁₅. alloc1 ! (λ l₁₆.
           alloc1 ! (λ l₁₇. alloc1 ! (λ l₁₈. alloc1 ! (λ l₁₉. alloc1 ! (λ l₂₀. alloc1 ! (λ l₂₁. alloc1 ! (λ l₂₂. alloc1 ! (λ l₂₃. alloc1 ! (λ l₂₄. alloc1
@@ -186,83 +188,59 @@ module _ {M : Type 1} (𝓤 : URA M) (H : Heap 𝓤) (A : Atoms 𝓤) (W : Given
           pass1 ! (init ! 50 refl ((LL.lawful BlockGrid.the-type BlockGrid′.the-laws 𝓤 H A W) .typed grid _ grid-is .0)) $
           pass1 ! (init ! 48 refl ((LL.lawful FrameGeom.the-type FrameGeom′.the-laws 𝓤 H A W) .typed current _ current-is .0)) $
           pass1 ! (init ! 46 refl ((Vectors.lawful 𝓤 H A W) .typed mvs _ mvs-is .0)) $
-          pass1 ! (init ! 44 refl ((LL.lawful (T.the-type (α κs)) (T′.the-laws (α κs)) 𝓤 H A W) .typed one _ one-is .0)) $
-          pass1 ! (init ! 42 refl ((LL.lawful (T.the-type (α κs)) (T′.the-laws (α κs)) 𝓤 H A W) .typed two _ two-is .0)) $
+          pass1 ! (init ! 44 refl ((LL.lawful (D κs) (L κs) 𝓤 H A W) .typed one _ one-is .0)) $
+          pass1 ! (init ! 42 refl ((LL.lawful (D κs) (L κs) 𝓤 H A W) .typed two _ two-is .0)) $
           pass1 ! (init ! 40 refl ((mut-slice-lawful 𝓤 H A W (named 1) κ₁ u16) .typed room _ room-is .0)) $
           pass1 ! (init ! 38 refl ((mut-slice-lawful 𝓤 H A W (named 2) κ₂ u16) .typed out _ out-is .0)) $
           pass1 ! (init ! 36 refl ((LL.lawful DestGeom.the-type DestGeom′.the-laws 𝓤 H A W) .typed dest _ dest-is .0)) $
           pass0 ! $
           -- one's size
-          assigns ! (of-opd ! (load ! (from ! (fld ! refl (stop !))) (look-in ! 44 (sub ! 2 refl (whole !))))) (from ! (stop !)) (init ! 30 refl (
-            tt,
-            (one-typed .1 .1 .0),
-          )) $
-          assigns ! (of-opd ! (load ! (from ! (fld ! refl (stop !))) (look-in ! 44 (sub ! 3 refl (whole !))))) (from ! (stop !)) (init ! 28 refl (
-            tt,
-            (one-typed .1 .1 .1 .0),
-          )) $
-          assigns ! (of-opd ! (load ! (from ! (fld ! refl (stop !))) (look-in ! 44 (sub ! 4 refl (whole !))))) (from ! (stop !)) (init ! 26 refl (
-            tt,
-            (one-typed .1 .1 .1 .1 .0),
-          )) $
-          assigns ! (of-opd ! (load ! (from ! (fld ! refl (stop !))) (look-in ! 44 (sub ! 5 refl (whole !))))) (from ! (stop !)) (init ! 24 refl (
-            tt,
-            (one-typed .1 .1 .1 .1 .1 .0),
-          )) $
-          assigns ! (agg ! (and-then ! (load ! (from ! (stop !)) (look ! 30 refl)) (and-then ! (load ! (from ! (stop !)) (look ! 28 refl)) (and-then !
-          (load ! (from ! (stop !)) (look ! 26 refl)) (and-then ! (load ! (from ! (stop !)) (look ! 24 refl)) (no-more !)))))) (from ! (stop !)) (init !
-          34 refl (tt, ((one-typed .1 .1 .0) ▹ (one-typed .1 .1 .1 .0) ▹ (one-typed .1 .1 .1 .1 .0) ▹ (one-typed .1 .1 .1 .1 .1 .0) ▹ tt))) $
+          assigns ! (of-opd ! (load ! (from ! (fld ! refl (stop !))) (look-in ! 44 (sub ! 2 refl (whole !))))) (from ! (stop !)) (init ! 30 refl (tt ▹
+          (one-typed .1 .1 .0))) $
+          assigns ! (of-opd ! (load ! (from ! (fld ! refl (stop !))) (look-in ! 44 (sub ! 3 refl (whole !))))) (from ! (stop !)) (init ! 28 refl (tt ▹
+          (one-typed .1 .1 .1 .0))) $
+          assigns ! (of-opd ! (load ! (from ! (fld ! refl (stop !))) (look-in ! 44 (sub ! 4 refl (whole !))))) (from ! (stop !)) (init ! 26 refl (tt ▹
+          (one-typed .1 .1 .1 .1 .0))) $
+          assigns ! (of-opd ! (load ! (from ! (fld ! refl (stop !))) (look-in ! 44 (sub ! 5 refl (whole !))))) (from ! (stop !)) (init ! 24 refl (tt ▹
+          (one-typed .1 .1 .1 .1 .1 .0))) $
+          assigns ! (agg ! (and-then ! (local-at ! 30 refl) (and-then ! (local-at ! 28 refl) (and-then ! (local-at ! 26 refl) (and-then ! (local-at ! 24
+          refl) (no-more !)))))) (from ! (stop !)) (init ! 34 refl (tt ▹ ((one-typed .1 .1 .0) ▹ (one-typed .1 .1 .1 .0) ▹ (one-typed .1 .1 .1 .1 .0) ▹
+          (one-typed .1 .1 .1 .1 .1 .0) ▹ tt))) $
           -- two's size
-          assigns ! (of-opd ! (load ! (from ! (fld ! refl (stop !))) (look-in ! 42 (sub ! 2 refl (whole !))))) (from ! (stop !)) (init ! 22 refl (
-            tt,
-            (two-typed .1 .1 .0),
-          )) $
-          assigns ! (of-opd ! (load ! (from ! (fld ! refl (stop !))) (look-in ! 42 (sub ! 3 refl (whole !))))) (from ! (stop !)) (init ! 20 refl (
-            tt,
-            (two-typed .1 .1 .1 .0),
-          )) $
-          assigns ! (of-opd ! (load ! (from ! (fld ! refl (stop !))) (look-in ! 42 (sub ! 4 refl (whole !))))) (from ! (stop !)) (init ! 18 refl (
-            tt,
-            (two-typed .1 .1 .1 .1 .0),
-          )) $
-          assigns ! (of-opd ! (load ! (from ! (fld ! refl (stop !))) (look-in ! 42 (sub ! 5 refl (whole !))))) (from ! (stop !)) (init ! 16 refl (
-            tt,
-            (two-typed .1 .1 .1 .1 .1 .0),
-          )) $
-          assigns ! (agg ! (and-then ! (load ! (from ! (stop !)) (look ! 22 refl)) (and-then ! (load ! (from ! (stop !)) (look ! 20 refl)) (and-then !
-          (load ! (from ! (stop !)) (look ! 18 refl)) (and-then ! (load ! (from ! (stop !)) (look ! 16 refl)) (no-more !)))))) (from ! (stop !)) (init !
-          32 refl (tt, ((two-typed .1 .1 .0) ▹ (two-typed .1 .1 .1 .0) ▹ (two-typed .1 .1 .1 .1 .0) ▹ (two-typed .1 .1 .1 .1 .1 .0) ▹ tt))) $
+          assigns ! (of-opd ! (load ! (from ! (fld ! refl (stop !))) (look-in ! 42 (sub ! 2 refl (whole !))))) (from ! (stop !)) (init ! 22 refl (tt ▹
+          (two-typed .1 .1 .0))) $
+          assigns ! (of-opd ! (load ! (from ! (fld ! refl (stop !))) (look-in ! 42 (sub ! 3 refl (whole !))))) (from ! (stop !)) (init ! 20 refl (tt ▹
+          (two-typed .1 .1 .1 .0))) $
+          assigns ! (of-opd ! (load ! (from ! (fld ! refl (stop !))) (look-in ! 42 (sub ! 4 refl (whole !))))) (from ! (stop !)) (init ! 18 refl (tt ▹
+          (two-typed .1 .1 .1 .1 .0))) $
+          assigns ! (of-opd ! (load ! (from ! (fld ! refl (stop !))) (look-in ! 42 (sub ! 5 refl (whole !))))) (from ! (stop !)) (init ! 16 refl (tt ▹
+          (two-typed .1 .1 .1 .1 .1 .0))) $
+          assigns ! (agg ! (and-then ! (local-at ! 22 refl) (and-then ! (local-at ! 20 refl) (and-then ! (local-at ! 18 refl) (and-then ! (local-at ! 16
+          refl) (no-more !)))))) (from ! (stop !)) (init ! 32 refl (tt ▹ ((two-typed .1 .1 .0) ▹ (two-typed .1 .1 .1 .0) ▹ (two-typed .1 .1 .1 .1 .0) ▹
+          (two-typed .1 .1 .1 .1 .1 .0) ▹ tt))) $
           -- the bands, and what is lent to write
-          assigns ! (of-opd ! (load ! (from ! (fld ! refl (stop !))) (look-in ! 44 (sub ! 0 refl (whole !))))) (from ! (stop !)) (init ! 14 refl (
-            tt,
-            (one-typed .0),
-          )) $
-          assigns ! (of-opd ! (load ! (from ! (fld ! refl (stop !))) (look-in ! 44 (sub ! 1 refl (whole !))))) (from ! (stop !)) (init ! 12 refl (
-            tt,
-            (one-typed .1 .0),
-          )) $
-          assigns ! (of-opd ! (load ! (from ! (fld ! refl (stop !))) (look-in ! 42 (sub ! 0 refl (whole !))))) (from ! (stop !)) (init ! 10 refl (
-            tt,
-            (two-typed .0),
-          )) $
-          assigns ! (of-opd ! (load ! (from ! (fld ! refl (stop !))) (look-in ! 42 (sub ! 1 refl (whole !))))) (from ! (stop !)) (init ! 8 refl (
-            tt,
-            (two-typed .1 .0),
-          )) $
-          assigns ! (addr ! (from ! (fld ! refl (hop ! (look-in ! 40 (sub ! 0 refl (whole !))) (stop !))))) (from ! (stop !)) (init ! 6 refl (tt, tt)) $
-          assigns ! (agg ! (and-then ! (load ! (from ! (stop !)) (look ! 6 refl)) (and-then ! (load ! (from ! (fld ! refl (stop !))) (look-in ! 40 (sub
-          ! 1 refl (whole !)))) (no-more !)))) (from ! (stop !)) (init ! 4 refl ((mut-slice-lawful 𝓤 H A W erased κ₁ u16) .typed room _ room-is .0)) $
-          assigns ! (addr ! (from ! (fld ! refl (hop ! (look-in ! 38 (sub ! 0 refl (whole !))) (stop !))))) (from ! (stop !)) (init ! 2 refl (tt, tt)) $
-          assigns ! (agg ! (and-then ! (load ! (from ! (stop !)) (look ! 2 refl)) (and-then ! (load ! (from ! (fld ! refl (stop !))) (look-in ! 38 (sub
-          ! 1 refl (whole !)))) (no-more !)))) (from ! (stop !)) (init ! 0 refl ((mut-slice-lawful 𝓤 H A W erased κ₂ u16) .typed out _ out-is .0)) $
+          assigns ! (of-opd ! (load ! (from ! (fld ! refl (stop !))) (look-in ! 44 (sub ! 0 refl (whole !))))) (from ! (stop !)) (init ! 14 refl (tt ▹
+          (one-typed .0))) $
+          assigns ! (of-opd ! (load ! (from ! (fld ! refl (stop !))) (look-in ! 44 (sub ! 1 refl (whole !))))) (from ! (stop !)) (init ! 12 refl (tt ▹
+          (one-typed .1 .0))) $
+          assigns ! (of-opd ! (load ! (from ! (fld ! refl (stop !))) (look-in ! 42 (sub ! 0 refl (whole !))))) (from ! (stop !)) (init ! 10 refl (tt ▹
+          (two-typed .0))) $
+          assigns ! (of-opd ! (load ! (from ! (fld ! refl (stop !))) (look-in ! 42 (sub ! 1 refl (whole !))))) (from ! (stop !)) (init ! 8 refl (tt ▹
+          (two-typed .1 .0))) $
+          assigns ! (addr ! (from ! (fld ! refl (hop ! (look-in ! 40 (sub ! 0 refl (whole !))) (stop !))))) (from ! (stop !)) (init ! 6 refl (tt ▹ tt))
+          $
+          assigns ! (agg ! (and-then ! (local-at ! 6 refl) (and-then ! (load ! (from ! (fld ! refl (stop !))) (look-in ! 40 (sub ! 1 refl (whole !))))
+          (no-more !)))) (from ! (stop !)) (init ! 4 refl ((mut-slice-lawful 𝓤 H A W erased κ₁ u16) .typed room _ room-is .0)) $
+          assigns ! (addr ! (from ! (fld ! refl (hop ! (look-in ! 38 (sub ! 0 refl (whole !))) (stop !))))) (from ! (stop !)) (init ! 2 refl (tt ▹ tt))
+          $
+          assigns ! (agg ! (and-then ! (local-at ! 2 refl) (and-then ! (load ! (from ! (fld ! refl (stop !))) (look-in ! 38 (sub ! 1 refl (whole !))))
+          (no-more !)))) (from ! (stop !)) (init ! 0 refl ((mut-slice-lawful 𝓤 H A W erased κ₂ u16) .typed out _ out-is .0)) $
           -- the call
           move ! (56 ∷ []) $ use1 W (raw (C-predict 𝓤 H A mem run .pre to)) asked $
-          calls-at ! fm (C-predict 𝓤 H A mem run) known-predict to (and-then ! (load ! (from ! (stop !)) (look ! 53 refl)) (and-then ! (load ! (from !
-          (stop !)) (look ! 51 refl)) (and-then ! (load ! (from ! (stop !)) (look ! 49 refl)) (and-then ! (load ! (from ! (stop !)) (look ! 47 refl))
-          (and-then ! (load ! (from ! (stop !)) (look ! 35 refl)) (and-then ! (load ! (from ! (stop !)) (look ! 15 refl)) (and-then ! (load ! (from !
-          (stop !)) (look ! 13 refl)) (and-then ! (load ! (from ! (stop !)) (look ! 33 refl)) (and-then ! (load ! (from ! (stop !)) (look ! 11 refl))
-          (and-then ! (load ! (from ! (stop !)) (look ! 9 refl)) (and-then ! (load ! (from ! (stop !)) (look ! 5 refl)) (and-then ! (load ! (from !
-          (stop !)) (look ! 1 refl)) (and-then ! (load ! (from ! (stop !)) (look ! 37 refl)) (no-more !))))))))))))))
+          calls-at ! fm (C-predict 𝓤 H A mem run) known-predict to (and-then ! (local-at ! 53 refl) (and-then ! (local-at ! 51 refl) (and-then !
+          (local-at ! 49 refl) (and-then ! (local-at ! 47 refl) (and-then ! (local-at ! 35 refl) (and-then ! (local-at ! 15 refl) (and-then ! (local-at
+          ! 13 refl) (and-then ! (local-at ! 33 refl) (and-then ! (local-at ! 11 refl) (and-then ! (local-at ! 9 refl) (and-then ! (local-at ! 5 refl)
+          (and-then ! (local-at ! 1 refl) (and-then ! (local-at ! 37 refl) (no-more !))))))))))))))
           (λ u. use1 W (later (some (λ (r : ℕ). ((‵ (flft κ₀ q₀) ⊛ ‵ (flft κ₁ q₁) ⊛ ‵ (flft κ₂ q₂) ⊛ ‵ ftrue) ⊛ ‵ (u32 .own r (u ∷ []))) ⊛ raw (ensured
           𝓤 H A predict.ended (predict.clauses 𝓤 H A mem run) κs ca tt r)))) (id⊢ 𝓤 _) $ await ! tt $ pick ! (λ r.
           split ! $ move ! (1 ∷ []) $
@@ -291,14 +269,14 @@ module _ {M : Type 1} (𝓤 : URA M) (H : Heap 𝓤) (A : Atoms 𝓤) (W : Given
   me-walks C Λ fm known-predict =
       walked 𝓤 H A me.ended stayed (me.clauses 𝓤 H A mem run) (WpFn 𝓤 H C Λ code.function) (λ κs. (LL.vals InterPredArgs.the-type
       InterPredArgs′.the-laws ▹ LL.vals BlockGrid.the-type BlockGrid′.the-laws ▹ LL.vals FrameGeom.the-type FrameGeom′.the-laws ▹ Vectors.vals ▹ LL.vals
-      (T.the-type (α κs)) (T′.the-laws (α κs)) ▹ LL.vals (T.the-type (α κs)) (T′.the-laws (α κs)) ▹ slice-vals ▹ slice-vals ▹ LL.vals DestGeom.the-type
-      DestGeom′.the-laws ▹ tt)) (λ κs. (LL.tells InterPredArgs.the-type InterPredArgs′.the-laws ▹ LL.tells BlockGrid.the-type BlockGrid′.the-laws ▹
-      LL.tells FrameGeom.the-type FrameGeom′.the-laws ▹ Vectors.tells ▹ LL.tells (T.the-type (α κs)) (T′.the-laws (α κs)) ▹ LL.tells (T.the-type (α κs))
-      (T′.the-laws (α κs)) ▹ mut-slice-tells (named 1) (κs .1 .0) u16 ▹ mut-slice-tells (named 2) (κs .1 .1 .0) u16 ▹ LL.tells DestGeom.the-type
-      DestGeom′.the-laws ▹ tt)) (λ κs qs bounds a g are. via 𝓤 _ (fst∗ 𝓤 _ (emp 𝓤)) (walk 𝓤 H A W mem run (κs .0) (κs .1 .0) (κs .1 .1 .0) (qs .0) (qs
-      .1 .0) (qs .1 .1 .0) (a .0) (a .1 .0) (a .1 .1 .0) (a .1 .1 .1 .0) (a .1 .1 .1 .1 .0) (a .1 .1 .1 .1 .1 .0) (a .1 .1 .1 .1 .1 .1 .0) (a .1 .1 .1
-      .1 .1 .1 .1 .0) (a .1 .1 .1 .1 .1 .1 .1 .1 .0) (are .0) (are .1 .0) (are .1 .1 .0) (are .1 .1 .1 .0) (are .1 .1 .1 .1 .0) (are .1 .1 .1 .1 .1 .0)
-      (are .1 .1 .1 .1 .1 .1 .0) (are .1 .1 .1 .1 .1 .1 .1 .0) (are .1 .1 .1 .1 .1 .1 .1 .1 .0) C Λ fm known-predict))
+      (D κs) (L κs) ▹ LL.vals (D κs) (L κs) ▹ slice-vals ▹ slice-vals ▹ LL.vals DestGeom.the-type DestGeom′.the-laws ▹ tt)) (λ κs. (LL.tells
+      InterPredArgs.the-type InterPredArgs′.the-laws ▹ LL.tells BlockGrid.the-type BlockGrid′.the-laws ▹ LL.tells FrameGeom.the-type FrameGeom′.the-laws
+      ▹ Vectors.tells ▹ LL.tells (D κs) (L κs) ▹ LL.tells (D κs) (L κs) ▹ mut-slice-tells (named 1) (κs .1 .0) u16 ▹ mut-slice-tells (named 2) (κs .1 .1
+      .0) u16 ▹ LL.tells DestGeom.the-type DestGeom′.the-laws ▹ tt)) (λ κs qs bounds a g are. via 𝓤 _ (fst∗ 𝓤 _ (emp 𝓤)) (walk 𝓤 H A W mem run (κs .0)
+      (κs .1 .0) (κs .1 .1 .0) (qs .0) (qs .1 .0) (qs .1 .1 .0) (a .0) (a .1 .0) (a .1 .1 .0) (a .1 .1 .1 .0) (a .1 .1 .1 .1 .0) (a .1 .1 .1 .1 .1 .0)
+      (a .1 .1 .1 .1 .1 .1 .0) (a .1 .1 .1 .1 .1 .1 .1 .0) (a .1 .1 .1 .1 .1 .1 .1 .1 .0) (are .0) (are .1 .0) (are .1 .1 .0) (are .1 .1 .1 .0) (are .1
+      .1 .1 .1 .0) (are .1 .1 .1 .1 .1 .0) (are .1 .1 .1 .1 .1 .1 .0) (are .1 .1 .1 .1 .1 .1 .1 .0) (are .1 .1 .1 .1 .1 .1 .1 .1 .0) C Λ fm
+      known-predict))
 
 me-meets :
     {M : Type 1} (𝓤 : URA M) (H : Heap 𝓤) (A : Atoms 𝓤) (W : Given 𝓤 H A) (mem : Memory → SProp 𝓤) (run : Routine → Fun 𝓤) (𝓣 : Tables 𝓤 H) → Triple 𝓤

@@ -3,14 +3,14 @@
 use Rattle.views.proofs.Kit.{_≡_, refl, ℕ, List, [], _∷_, ℤ, length, URA, named, erased, w32, w64, Val, vint, vptr, ofZ, SProp, ent, sep, emp}
 use Rattle.views.proofs.Kit.{via, fst∗, id⊢, Lft, Share, ftrue, flft, Memory, Routine, Heap, Calls, Loops, WpFn, Tables, Atoms, Lfts, Fun, fact}
 use Rattle.views.proofs.Kit.{givenOf, tables, tablesOf, Given, ‵, raw, _⊛_, ⋆, some, later, _$_, _∵_, !, qed, by, move, drop, use1, use2, use3}
-use Rattle.views.proofs.Kit.{split, join, pick, rewrite, fjoin, suffices, frame, await, done, look, init, forget, stop, hop, from, load, addr}
+use Rattle.views.proofs.Kit.{split, join, pick, rewrite, fjoin, suffices, frame, await, done, look, init, forget, stop, hop, from, addr}
 use Rattle.views.proofs.Kit.{and-then, no-more, assigns, land, returns, enter, alloc1, alloc0, params1, pass1, pass0, free1, free0, FmC, fmOf}
 use Rattle.views.proofs.Kit.{WpFn-mono, owns, Is, shows, uint-makes, uint-vals, uint-tells, uint-lawful, sint-makes, sint-vals, sint-tells}
 use Rattle.views.proofs.Kit.{sint-lawful, u16, u32, usize, i32, RefT, NamedLft, MutRef, ptr-vals, mut-tells, mut-lawful, now, plain, namedLft}
-use Rattle.views.proofs.Kit.{shrSliceOf, sliceVal, ShrSlice, slice-vals, shr-slice-tells, shr-slice-lawful, peeks, heard, nothing, Contract}
-use Rattle.views.proofs.Kit.{Triple, calls-at, Args, Vals, onEntry, Meets, tripleOf, entered, cited, says, Stays, stay-dropped, gave-ref, walkOf}
-use Rattle.views.proofs.Kit.{goes-dropped, goes-gave-ref, Walks, ends-at, walked, walk-meets, yes, Lasts, ensured, lasts}
-use Rattle.views.proofs.Steps.{_▹_, without, aside, none, fresh}
+use Rattle.views.proofs.Kit.{shrSliceOf, sliceVal, ShrSlice, slice-vals, shr-slice-tells, shr-slice-lawful, peeks, heard, nothing, Declared}
+use Rattle.views.proofs.Kit.{Contract, Triple, calls-at, Args, Vals, onEntry, Meets, tripleOf, entered, cited, says, Stays, stay-dropped}
+use Rattle.views.proofs.Kit.{gave-ref, walkOf, goes-dropped, goes-gave-ref, Walks, ends-at, walked, walk-meets, yes, Lasts, ensured, lasts}
+use Rattle.views.proofs.Steps.{_▹_, without, aside, none, fresh, local-at}
 use Rattle.views.proofs.Kit.LL
 use Rattle.samples.specs.Plane.{lent, ReadOutcome}
 use Rattle.views.specs.Seen.{geom}
@@ -33,9 +33,15 @@ use Rattle.views.proofs.ref_plane.read_row.Key.{name as #views·ref-pla
 use Rattle.views.proofs.ref_plane.read_row.Statement as stated
 use Rattle.views.proofs.ref_plane.read_row.Code as code
 
--- the view's lifetime
+-- the view's lifetime, its type and its laws
 abbrev α : Lfts 2 → NamedLft
 α κs = namedLft 2 0 tt κs
+
+abbrev D : Lfts 2 → Declared
+D κs = T.the-type (α κs)
+
+abbrev L : (κs : Lfts 2) → LL.Laws (D κs)
+L κs = T′.the-laws (α κs)
 
 -- what is had of each parameter when the function returns: of what it was lent to write, the last value; of the rest, nothing
 abbrev stayed : Stays (me.ended .signature .params) (me.ended .kept)
@@ -64,6 +70,11 @@ module _ {M : Type 1} (𝓤 : URA M) (H : Heap 𝓤) (A : Atoms 𝓤) (W : Given
       w32 (ofZ w32 height)) ∷ [] ▹ (vint w64 stride) ∷ [] ▹ (vint w64 rows) ∷ [] ▹ (vint w64 y) ∷ [] ▹ (vptr (number .ptr .0) (number .ptr .1)) ∷ [] ▹
       tt)
 
+  abbrev machine : List Val
+  machine =
+      ((sliceVal (upper .ptr) (length (upper .now))) ∷ (sliceVal (lower .ptr) (length (lower .now))) ∷ (vint w32 (ofZ w32 width)) ∷ (vint w32 (ofZ w32
+      height)) ∷ (vint w64 stride) ∷ (vint w64 rows) ∷ (vint w64 y) ∷ (vptr (number .ptr .0) (number .ptr .1)) ∷ [])
+
   -- what the function has when it starts, and what it owes
   abbrev entry : SProp 𝓤
   entry = onEntry 𝓤 H A me.signature κs (q₀ ▹ q₁ ▹ tt) a vals
@@ -82,18 +93,13 @@ module _ {M : Type 1} (𝓤 : URA M) (H : Heap 𝓤) (A : Atoms 𝓤) (W : Given
   abbrev na : Args new.signature (κ₀ ▹ tt)
   na = (upper ▹ lower ▹ width ▹ height ▹ stride ▹ rows ▹ tt)
 
+  abbrev new-handed : Vals new.signature (κ₀ ▹ tt)
+  new-handed =
+      ((sliceVal (upper .ptr) (length (upper .now))) ∷ [] ▹ (sliceVal (lower .ptr) (length (lower .now))) ∷ [] ▹ (vint w32 (ofZ w32 width)) ∷ [] ▹ (vint
+      w32 (ofZ w32 height)) ∷ [] ▹ (vint w64 stride) ∷ [] ▹ (vint w64 rows) ∷ [] ▹ tt)
+
   abbrev to-new : C-new 𝓤 H A mem run .Ghost
-  to-new = (
-    (
-      κ₀ ▹ tt,
-      q₀ ▹ tt,
-      tt,
-      na,
-      ((sliceVal (upper .ptr) (length (upper .now))) ∷ [] ▹ (sliceVal (lower .ptr) (length (lower .now))) ∷ [] ▹ (vint w32
-          (ofZ w32 width)) ∷ [] ▹ (vint w32 (ofZ w32 height)) ∷ [] ▹ (vint w64 stride) ∷ [] ▹ (vint w64 rows) ∷ [] ▹ tt),
-    ),
-    tt,
-  )
+  to-new = ((κ₀ ▹ tt, q₀ ▹ tt, tt, na, new-handed), tt)
 
   abbrev ca : Args row.signature κs
   ca = (made ▹ y ▹ number ▹ tt)
@@ -103,7 +109,7 @@ module _ {M : Type 1} (𝓤 : URA M) (H : Heap 𝓤) (A : Atoms 𝓤) (W : Given
 
   -- what the callee ensures, at what the view was made of
   abbrev Said : RefT (List ℕ) → Lasts row.ended κs ca → Type 0
-  Said r ws = ReadOutcome (lent (geom width height stride rows) (now upper) (now lower)) y ((ws .1 .1 .0)) (now r)
+  Said r ws = ReadOutcome (lent (geom width height stride rows) (now upper) (now lower)) y (ws .1 .1 .0) (now r)
 
   -- what is kept back while the view is made
   abbrev kept : SProp 𝓤
@@ -124,9 +130,7 @@ module _ {M : Type 1} (𝓤 : URA M) (H : Heap 𝓤) (A : Atoms 𝓤) (W : Given
         fresh ! usize (uint-makes 𝓤 H A W w64) stride stride-is $ fresh ! i32 (sint-makes 𝓤 H A W w32) height height-is $
         fresh ! i32 (sint-makes 𝓤 H A W w32) width width-is $ move ! (4 ∷ 0 ∷ []) $ fjoin ! $ move ! (4 ∷ 0 ∷ []) $ fjoin ! $ move ! (1 ∷ 0 ∷ []) $
         use2 W (raw (C-new 𝓤 H A mem run .pre to-new)) (qed W ((‵ (flft κ₀ q₀) ⊛ ‵ ftrue) ∷ ‵ (owns ((ShrSlice (named 0) κ₀ u16) ∷ (ShrSlice (named 0)
-        κ₀ u16) ∷ i32 ∷ i32 ∷ usize ∷ usize ∷ []) na ((sliceVal (upper .ptr) (length (upper .now))) ∷ [] ▹ (sliceVal (lower .ptr) (length (lower .now)))
-        ∷ [] ▹ (vint w32 (ofZ w32 width)) ∷ [] ▹ (vint w32 (ofZ w32 height)) ∷ [] ▹ (vint w64 stride) ∷ [] ▹ (vint w64 rows) ∷ [] ▹ tt)) ∷ []) ∵ join !
-        $ frame ! $ done !) $ frame ! $ done !
+        κ₀ u16) ∷ i32 ∷ i32 ∷ usize ∷ usize ∷ []) na new-handed) ∷ []) ∵ join ! $ frame ! $ done !) $ frame ! $ done !
 
     -- the view that was made, with what was kept, is what the callee asks
     asked : (v : Val) → ent 𝓤 (⋆ 𝓤 H A (‵ ((T.the-row (α κs)) .own made (v ∷ [])) ∷ (‵ (flft κ₀ q₀) ⊛ ‵ ftrue) ∷ raw kept ∷ [])) (C-row 𝓤 H A mem run .pre (to v))
@@ -151,13 +155,9 @@ module _ {M : Type 1} (𝓤 : URA M) (H : Heap 𝓤) (A : Atoms 𝓤) (W : Given
     -- the code, statement by statement
     module _ (C : Calls 𝓤 H) (Λ : Loops 𝓤 H) (fm : FmC 𝓤 H (W .laws) C) (known-new : Triple 𝓤 (C #views·ref-plane·RefPlane·new) (C-new 𝓤 H A mem run))
         (known-row : Triple 𝓤 (C #views·ref-plane·RefPlane·row) (C-row 𝓤 H A mem run)) where
-      walk : ent 𝓤 entry (WpFn 𝓤 H C Λ code.function
-          ((sliceVal (upper .ptr) (length (upper .now))) ∷ (sliceVal (lower .ptr) (length (lower .now))) ∷ (vint w32 (ofZ w32 width)) ∷ (vint w32 (ofZ w32 height)) ∷ (vint w64 stride) ∷ (vint w64 rows) ∷ (vint w64 y) ∷ (vptr (number .ptr .0) (number .ptr .1)) ∷ [])
-          Post)
+      walk : ent 𝓤 entry (WpFn 𝓤 H C Λ code.function machine Post)
       walk =
-          qed W (raw entry ∷ []) ∵ enter ! C Λ code.function ((sliceVal (upper .ptr) (length (upper .now))) ∷ (sliceVal (lower .ptr) (length (lower
-          .now))) ∷ (vint w32 (ofZ w32 width)) ∷ (vint w32 (ofZ w32 height)) ∷ (vint w64 stride) ∷ (vint w64 rows) ∷ (vint w64 y) ∷ (vptr (number .ptr
-          .0) (number .ptr .1)) ∷ []) _ $
+          qed W (raw entry ∷ []) ∵ enter ! C Λ code.function machine _ $
           alloc1 ! (λ l₀. alloc1 ! (λ l₁. alloc1 ! (λ l₂. alloc1 ! (λ l₃. alloc1 ! (λ l₄. alloc1 ! (λ l₅. alloc1 ! (λ l₆. alloc1 ! (λ l₇. alloc1 ! (λ
           l₈. alloc1 ! (λ l₉. alloc1 ! (λ l₁₀. alloc0 ! $ params1 ! $
           pass1 ! (init ! 18 refl ((shr-slice-lawful 𝓤 H A W (named 0) κ₀ u16) .typed upper _ upper-is .0)) $
@@ -171,9 +171,8 @@ module _ {M : Type 1} (𝓤 : URA M) (H : Heap 𝓤) (A : Atoms 𝓤) (W : Given
           pass0 ! $
           -- the view is made
           move ! (22 ∷ []) $ use1 W (raw (C-new 𝓤 H A mem run .pre to-new) ⊛ raw kept) makes-it $ split ! $
-          calls-at ! fm (C-new 𝓤 H A mem run) known-new to-new (and-then ! (load ! (from ! (stop !)) (look ! 20 refl)) (and-then ! (load ! (from ! (stop
-          !)) (look ! 18 refl)) (and-then ! (load ! (from ! (stop !)) (look ! 16 refl)) (and-then ! (load ! (from ! (stop !)) (look ! 14 refl))
-          (and-then ! (load ! (from ! (stop !)) (look ! 12 refl)) (and-then ! (load ! (from ! (stop !)) (look ! 10 refl)) (no-more !))))))) (λ v.
+          calls-at ! fm (C-new 𝓤 H A mem run) known-new to-new (and-then ! (local-at ! 20 refl) (and-then ! (local-at ! 18 refl) (and-then ! (local-at !
+          16 refl) (and-then ! (local-at ! 14 refl) (and-then ! (local-at ! 12 refl) (and-then ! (local-at ! 10 refl) (no-more !))))))) (λ v.
           use1 W (later (some (λ (h : RefPlane). ((‵ (flft κ₀ q₀) ⊛ ‵ ftrue) ⊛ ‵ ((T.the-row (α κs)) .own h (v ∷ []))) ⊛ raw (ensured 𝓤 H A new.ended
           (new.clauses 𝓤 H A mem run) (κ₀ ▹ tt) na tt h)))) (id⊢ 𝓤 _) $ await ! tt $ pick ! (λ h.
           split ! $ move ! (1 ∷ []) $
@@ -183,10 +182,10 @@ module _ {M : Type 1} (𝓤 : URA M) (H : Heap 𝓤) (A : Atoms 𝓤) (W : Given
           peeks ! (T.the-row (α κs)) (Is (T.the-row (α κs))) (shows 𝓤 H A (T.the-row (α κs))) made (v ∷ []) (λ made-is.
           land ! (from ! (stop !)) (init ! 5 refl (LL.lawful (T.the-type αᵉ) (T′.the-laws αᵉ) 𝓤 H A W .typed made _ made-is .0)) $
           -- it is passed on
-          assigns ! (addr ! (from ! (hop ! (look ! 7 refl) (stop !)))) (from ! (stop !)) (init ! 3 refl (tt, tt)) $
+          assigns ! (addr ! (from ! (hop ! (look ! 7 refl) (stop !)))) (from ! (stop !)) (init ! 3 refl (tt ▹ tt)) $
           use3 W (raw (C-row 𝓤 H A mem run .pre (to v))) (asked v) $
-          calls-at ! fm (C-row 𝓤 H A mem run) known-row (to v) (and-then ! (load ! (from ! (stop !)) (look ! 3 refl)) (and-then ! (load ! (from ! (stop
-          !)) (look ! 7 refl)) (and-then ! (load ! (from ! (stop !)) (look ! 1 refl)) (no-more !))))
+          calls-at ! fm (C-row 𝓤 H A mem run) known-row (to v) (and-then ! (local-at ! 3 refl) (and-then ! (local-at ! 7 refl) (and-then ! (local-at ! 1
+          refl) (no-more !))))
           (λ u. use1 W (later (some (λ (r : RefT (List ℕ)). ((‵ (flft κ₀ q₀) ⊛ ‵ (flft κ₁ q₁) ⊛ ‵ ftrue) ⊛ ‵ ((ShrSlice (named 0) κ₀ u16) .own r (u ∷
           []))) ⊛ raw (ensured 𝓤 H A row.ended (row.clauses 𝓤 H A mem run) κs ca tt r)))) (id⊢ 𝓤 _) $ await ! tt $ pick ! (λ r.
           split ! $ move ! (1 ∷ []) $

@@ -2,13 +2,13 @@
 -- Written by tools/walks/views.py: an edit of the function or of its callee's contract wants it written anew. Assumes nothing.
 use Rattle.views.proofs.Kit.{refl, ℕ, List, [], _∷_, ℤ, length, URA, named, w32, w64, Val, vint, ofZ, SProp, ent, emp, via, fst∗, Lft, Share}
 use Rattle.views.proofs.Kit.{ftrue, flft, Memory, Routine, Heap, Calls, Loops, WpFn, Tables, Atoms, Lfts, Fun, givenOf, tables, tablesOf, Given}
-use Rattle.views.proofs.Kit.{‵, raw, _⊛_, _$_, _∵_, !, qed, by, move, drop, fjoin, suffices, frame, agg, look, init, forget, stop, from, load}
+use Rattle.views.proofs.Kit.{‵, raw, _⊛_, _$_, _∵_, !, qed, by, move, drop, fjoin, suffices, frame, agg, look, init, forget, stop, from}
 use Rattle.views.proofs.Kit.{and-then, no-more, assigns, returns, enter, alloc1, alloc0, params1, pass1, pass0, free1, free0, WpFn-mono, owns}
 use Rattle.views.proofs.Kit.{Is, uint-makes, uint-vals, uint-tells, uint-lawful, sint-makes, sint-vals, sint-tells, sint-lawful, u16, usize, i32}
 use Rattle.views.proofs.Kit.{RefT, NamedLft, plain, namedLft, shrSliceOf, sliceVal, ShrSlice, slice-vals, shr-slice-tells, shr-slice-lawful}
-use Rattle.views.proofs.Kit.{nothing, own-shut, Args, Vals, onEntry, Meets, tripleOf, entered, says, Stays, stay-dropped, walkOf, goes-dropped}
-use Rattle.views.proofs.Kit.{Walks, ends-at, walked, walk-meets, yes}
-use Rattle.views.proofs.Steps.{_▹_, without, aside, none, fresh}
+use Rattle.views.proofs.Kit.{nothing, Declared, own-shut, Args, Vals, onEntry, Meets, tripleOf, entered, says, Stays, stay-dropped, walkOf}
+use Rattle.views.proofs.Kit.{goes-dropped, Walks, ends-at, walked, walk-meets, yes}
+use Rattle.views.proofs.Steps.{_▹_, without, aside, none, fresh, local-at}
 use Rattle.views.proofs.Kit.LL
 use Rattle.views.specs.declared.ref_frame.RefFrame.{RefFrame}
 use Rattle.views.proofs.ref_frame.RefFrame as T
@@ -18,9 +18,15 @@ use Rattle.views.proofs.ref_frame.RefFrame.new.Key.{name as #views·ref
 use Rattle.views.proofs.ref_frame.RefFrame.new.Statement as stated
 use Rattle.views.proofs.ref_frame.RefFrame.new.Code as code
 
--- the view's lifetime
+-- the view's lifetime, its type and its laws
 abbrev α : Lfts 1 → NamedLft
 α κs = namedLft 1 0 tt κs
+
+abbrev D : Lfts 1 → Declared
+D κs = T.the-type (α κs)
+
+abbrev L : (κs : Lfts 1) → LL.Laws (D κs)
+L κs = T′.the-laws (α κs)
 
 -- what is had of each parameter when the function returns: of what it was lent to write, the last value; of the rest, nothing
 abbrev stayed : Stays (me.ended .signature .params) (me.ended .kept)
@@ -38,6 +44,11 @@ module _ {M : Type 1} (𝓤 : URA M) (H : Heap 𝓤) (A : Atoms 𝓤) (W : Given
   vals =
       ((sliceVal (upper .ptr) (length (upper .now))) ∷ [] ▹ (sliceVal (lower .ptr) (length (lower .now))) ∷ [] ▹ (vint w32 (ofZ w32 frame-width)) ∷ [] ▹
       (vint w32 (ofZ w32 frame-height)) ∷ [] ▹ (vint w64 stride) ∷ [] ▹ (vint w64 upper-rows) ∷ [] ▹ tt)
+
+  abbrev machine : List Val
+  machine =
+      ((sliceVal (upper .ptr) (length (upper .now))) ∷ (sliceVal (lower .ptr) (length (lower .now))) ∷ (vint w32 (ofZ w32 frame-width)) ∷ (vint w32 (ofZ
+      w32 frame-height)) ∷ (vint w64 stride) ∷ (vint w64 upper-rows) ∷ [])
 
   -- what the function has when it starts, and what it owes
   abbrev entry : SProp 𝓤
@@ -65,16 +76,13 @@ module _ {M : Type 1} (𝓤 : URA M) (H : Heap 𝓤) (A : Atoms 𝓤) (W : Given
         none ! $ frame ! $ nothing ! $ fresh ! usize (uint-makes 𝓤 H A W w64) upper-rows upper-rows-is $
         fresh ! usize (uint-makes 𝓤 H A W w64) stride stride-is $ fresh ! i32 (sint-makes 𝓤 H A W w32) frame-height frame-height-is $
         fresh ! i32 (sint-makes 𝓤 H A W w32) frame-width frame-width-is $ move ! (1 ∷ 0 ∷ []) $ fjoin ! $ move ! (1 ∷ 0 ∷ []) $ fjoin ! $
-        by ! (own-shut 𝓤 H A W (T.the-type (α κs)) (T′.the-laws (α κs)) (T.struct (α κs) .as-values made))
+        by ! (own-shut 𝓤 H A W (D κs) (L κs) (T.struct (α κs) .as-values made))
 
     -- the code, statement by statement
     module _ (C : Calls 𝓤 H) (Λ : Loops 𝓤 H) where
-      walk : ent 𝓤 entry (WpFn 𝓤 H C Λ code.function
-          ((sliceVal (upper .ptr) (length (upper .now))) ∷ (sliceVal (lower .ptr) (length (lower .now))) ∷ (vint w32 (ofZ w32 frame-width)) ∷ (vint w32 (ofZ w32 frame-height)) ∷ (vint w64 stride) ∷ (vint w64 upper-rows) ∷ [])
-          Post)
+      walk : ent 𝓤 entry (WpFn 𝓤 H C Λ code.function machine Post)
       walk =
-          qed W (raw entry ∷ []) ∵ enter ! C Λ code.function ((sliceVal (upper .ptr) (length (upper .now))) ∷ (sliceVal (lower .ptr) (length (lower
-          .now))) ∷ (vint w32 (ofZ w32 frame-width)) ∷ (vint w32 (ofZ w32 frame-height)) ∷ (vint w64 stride) ∷ (vint w64 upper-rows) ∷ []) _ $
+          qed W (raw entry ∷ []) ∵ enter ! C Λ code.function machine _ $
           alloc1 ! (λ l₀. alloc1 ! (λ l₁. alloc1 ! (λ l₂. alloc1 ! (λ l₃. alloc1 ! (λ l₄. alloc1 ! (λ l₅. alloc1 ! (λ l₆. alloc0 ! $ params1 ! $
           pass1 ! (init ! 10 refl ((shr-slice-lawful 𝓤 H A W (named 0) κ₀ u16) .typed upper _ upper-is .0)) $
           pass1 ! (init ! 8 refl ((shr-slice-lawful 𝓤 H A W (named 0) κ₀ u16) .typed lower _ lower-is .0)) $
@@ -83,15 +91,12 @@ module _ {M : Type 1} (𝓤 : URA M) (H : Heap 𝓤) (A : Atoms 𝓤) (W : Given
           pass1 ! (init ! 2 refl ((uint-lawful 𝓤 H A W w64) .typed stride _ stride-is .0)) $
           pass1 ! (init ! 0 refl ((uint-lawful 𝓤 H A W w64) .typed upper-rows _ upper-rows-is .0)) $
           pass0 ! $
-          assigns ! (agg ! (and-then ! (load ! (from ! (stop !)) (look ! 10 refl)) (and-then ! (load ! (from ! (stop !)) (look ! 8 refl)) (and-then !
-          (load ! (from ! (stop !)) (look ! 6 refl)) (and-then ! (load ! (from ! (stop !)) (look ! 4 refl)) (and-then ! (load ! (from ! (stop !)) (look
-          ! 2 refl)) (and-then ! (load ! (from ! (stop !)) (look ! 0 refl)) (no-more !)))))))) (from ! (stop !)) (init ! 12 refl (
-            tt,
-            ((shr-slice-lawful
-                𝓤 H A W (named 0) κ₀ u16) .typed upper _ upper-is .0 .1 ▹ (shr-slice-lawful 𝓤 H A W (named 0) κ₀ u16) .typed lower _ lower-is .0 .1 ▹
-                (sint-lawful 𝓤 H A W w32) .typed frame-width _ frame-width-is .0 .1 ▹ (sint-lawful 𝓤 H A W w32) .typed frame-height _ frame-height-is .0 .1 ▹
-                (uint-lawful 𝓤 H A W w64) .typed stride _ stride-is .0 .1 ▹ (uint-lawful 𝓤 H A W w64) .typed upper-rows _ upper-rows-is .0 .1 ▹ tt),
-          )) $
+          assigns ! (agg ! (and-then ! (local-at ! 10 refl) (and-then ! (local-at ! 8 refl) (and-then ! (local-at ! 6 refl) (and-then ! (local-at ! 4
+          refl) (and-then ! (local-at ! 2 refl) (and-then ! (local-at ! 0 refl) (no-more !)))))))) (from ! (stop !)) (init ! 12 refl (tt ▹
+          ((shr-slice-lawful 𝓤 H A W (named 0) κ₀ u16) .typed upper _ upper-is .0 .1 ▹ (shr-slice-lawful 𝓤 H A W (named 0) κ₀ u16) .typed lower _
+          lower-is .0 .1 ▹ (sint-lawful 𝓤 H A W w32) .typed frame-width _ frame-width-is .0 .1 ▹ (sint-lawful 𝓤 H A W w32) .typed frame-height _
+          frame-height-is .0 .1 ▹ (uint-lawful 𝓤 H A W w64) .typed stride _ stride-is .0 .1 ▹ (uint-lawful 𝓤 H A W w64) .typed upper-rows _
+          upper-rows-is .0 .1 ▹ tt))) $
           returns ! (look ! 12 refl) $
           forget ! 0 refl $ forget ! 2 refl $ forget ! 4 refl $ forget ! 6 refl $ forget ! 8 refl $ forget ! 10 refl $ forget ! 12 refl $
           move ! (12 ∷ 13 ∷ []) $ free1 ! $ move ! (10 ∷ 11 ∷ []) $ free1 ! $ move ! (8 ∷ 9 ∷ []) $ free1 ! $ move ! (6 ∷ 7 ∷ []) $ free1 ! $

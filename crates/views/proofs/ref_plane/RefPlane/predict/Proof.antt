@@ -6,11 +6,11 @@ use Rattle.views.proofs.Kit.{tablesOf, Given, ‵, raw, _⊛_, ⋆, som
 use Rattle.views.proofs.Kit.{fjoin, feqL, suffices, frame, await, done, agg, whole, sub, look-in, look, init, forget, stop, hop, fld, from, load}
 use Rattle.views.proofs.Kit.{addr, of-opd, and-then, no-more, assigns, land, returns, enter, alloc1, alloc0, params1, pass1, pass0, free1, free0}
 use Rattle.views.proofs.Kit.{FmC, fmOf, WpFn-mono, owns, Is, shows, uint-makes, uint-vals, uint-tells, uint-lawful, u16, u32, usize, RefT}
-use Rattle.views.proofs.Kit.{NamedLft, now, plain, namedLft, sliceVal, MutSlice, ShrSlice, slice-vals, shr-slice-copy, mut-slice-tells}
-use Rattle.views.proofs.Kit.{mut-slice-lawful, peeks, heard, nothing, Contract, Triple, calls-at, Args, Vals, onEntry, Meets, tripleOf, entered}
-use Rattle.views.proofs.Kit.{cited, says, Stays, stay-dropped, gave-slice, walkOf, goes-dropped, goes-gave-slice, Walks, ends-at, walked}
-use Rattle.views.proofs.Kit.{walk-meets, yes, Lasts, ensured, lasts}
-use Rattle.views.proofs.Steps.{_▹_, without, aside, none, fresh, opened}
+use Rattle.views.proofs.Kit.{NamedLft, now, plain, namedLft, sliceVal, MutSlice, slice-vals, mut-slice-tells, mut-slice-lawful, peeks, heard}
+use Rattle.views.proofs.Kit.{nothing, Declared, Contract, Triple, calls-at, Args, Vals, onEntry, Meets, tripleOf, entered, cited, says, Stays}
+use Rattle.views.proofs.Kit.{stay-dropped, gave-slice, walkOf, goes-dropped, goes-gave-slice, Walks, ends-at, walked, walk-meets, yes, Lasts}
+use Rattle.views.proofs.Kit.{ensured, lasts}
+use Rattle.views.proofs.Steps.{_▹_, without, aside, none, fresh, opened, doubled, local-at}
 use Rattle.views.proofs.Kit.LL
 use Rattle.samples.specs.Call.{call, ref, Outcome}
 use Rattle.views.specs.Seen.{plane}
@@ -35,9 +35,15 @@ use Rattle.views.proofs.ref_plane.RefPlane.predict.Key.{name as #views�
 use Rattle.views.proofs.ref_plane.RefPlane.predict.Statement as stated
 use Rattle.views.proofs.ref_plane.RefPlane.predict.Code as code
 
--- the view's lifetime
+-- the view's lifetime, its type and its laws
 abbrev α : Lfts 3 → NamedLft
 α κs = namedLft 3 0 tt κs
+
+abbrev D : Lfts 3 → Declared
+D κs = T.the-type (α κs)
+
+abbrev L : (κs : Lfts 3) → LL.Laws (D κs)
+L κs = T′.the-laws (α κs)
 
 -- what is had of each parameter when the function returns: of what it was lent to write, the last value; of the rest, nothing
 abbrev stayed : Stays (me.ended .signature .params) (me.ended .kept)
@@ -62,6 +68,11 @@ module _ {M : Type 1} (𝓤 : URA M) (H : Heap 𝓤) (A : Atoms 𝓤) (W : Given
       ((T′.lowered self) ∷ [] ▹ (BlockShape′.lowered shape) ∷ [] ▹ (Stepping′.lowered start) ∷ [] ▹ (sliceVal (room .ptr) (length (room .now))) ∷ [] ▹
       (sliceVal (out .ptr) (length (out .now))) ∷ [] ▹ (vint w64 stride) ∷ [] ▹ tt)
 
+  abbrev machine : List Val
+  machine =
+      ((T′.lowered self) ∷ (BlockShape′.lowered shape) ∷ (Stepping′.lowered start) ∷ (sliceVal (room .ptr) (length (room .now))) ∷ (sliceVal (out .ptr)
+      (length (out .now))) ∷ (vint w64 stride) ∷ [])
+
   -- what the function has when it starts, and what it owes
   abbrev entry : SProp 𝓤
   entry = onEntry 𝓤 H A me.signature κs (q₀ ▹ q₁ ▹ q₂ ▹ tt) a vals
@@ -76,27 +87,22 @@ module _ {M : Type 1} (𝓤 : URA M) (H : Heap 𝓤) (A : Atoms 𝓤) (W : Given
   abbrev ca : Args predict.signature κs
   ca = (shape ▹ self-size ▹ start ▹ (self .upper) ▹ (self .lower) ▹ self-size ▹ start ▹ (self .upper) ▹ (self .lower) ▹ room ▹ out ▹ stride ▹ tt)
 
+  abbrev handed : Vals predict.signature κs
+  handed =
+      ((BlockShape′.lowered shape) ∷ [] ▹ (PlaneGeom′.lowered self-size) ∷ [] ▹ (Stepping′.lowered start) ∷ [] ▹ (sliceVal ((self .upper) .ptr) (length
+      ((self .upper) .now))) ∷ [] ▹ (sliceVal ((self .lower) .ptr) (length ((self .lower) .now))) ∷ [] ▹ (PlaneGeom′.lowered self-size) ∷ [] ▹
+      (Stepping′.lowered start) ∷ [] ▹ (sliceVal ((self .upper) .ptr) (length ((self .upper) .now))) ∷ [] ▹ (sliceVal ((self .lower) .ptr) (length
+      ((self .lower) .now))) ∷ [] ▹ (sliceVal (room .ptr) (length (room .now))) ∷ [] ▹ (sliceVal (out .ptr) (length (out .now))) ∷ [] ▹ (vint w64
+      stride) ∷ [] ▹ tt)
+
   abbrev to : C-predict 𝓤 H A mem run .Ghost
-  to = (
-    (
-      κs,
-      (q₀ ▹ q₁ ▹ q₂ ▹ tt),
-      tt,
-      ca,
-      ((BlockShape′.lowered shape) ∷ [] ▹ (PlaneGeom′.lowered self-size) ∷ [] ▹ (Stepping′.lowered start) ∷ [] ▹
-          (sliceVal ((self .upper) .ptr) (length ((self .upper) .now))) ∷ [] ▹ (sliceVal ((self .lower) .ptr) (length ((self .lower) .now))) ∷ [] ▹
-          (PlaneGeom′.lowered self-size) ∷ [] ▹ (Stepping′.lowered start) ∷ [] ▹ (sliceVal ((self .upper) .ptr) (length ((self .upper) .now))) ∷ [] ▹
-          (sliceVal ((self .lower) .ptr) (length ((self .lower) .now))) ∷ [] ▹ (sliceVal (room .ptr) (length (room .now))) ∷ [] ▹ (sliceVal (out .ptr)
-          (length (out .now))) ∷ [] ▹ (vint w64 stride) ∷ [] ▹ tt),
-    ),
-    tt,
-  )
+  to = ((κs, (q₀ ▹ q₁ ▹ q₂ ▹ tt), tt, ca, handed), tt)
 
   -- what the callee ensures, at the view
   abbrev Said : ℕ → Lasts predict.ended κs ca → Type 0
   Said r ws =
-      Outcome (call shape (ref (plane self) start) (ref (plane self) start) stride) (now out) (now room) r ((ws .1 .1 .1 .1 .1 .1 .1 .1 .1 .1 .0)) ((ws
-      .1 .1 .1 .1 .1 .1 .1 .1 .1 .0))
+      Outcome (call shape (ref (plane self) start) (ref (plane self) start) stride) (now out) (now room) r (ws .1 .1 .1 .1 .1 .1 .1 .1 .1 .1 .0) (ws .1
+      .1 .1 .1 .1 .1 .1 .1 .1 .0)
 
   module _ (self-is : Is (T.the-row (α κs)) self ((T′.lowered self) ∷ [])) (shape-is : Is BlockShape.the-row shape ((BlockShape′.lowered shape) ∷ []))
       (start-is : Is Stepping.the-row start ((Stepping′.lowered start) ∷ [])) (room-is : Is (MutSlice (named 1) κ₁ u16) room
@@ -105,26 +111,19 @@ module _ {M : Type 1} (𝓤 : URA M) (H : Heap 𝓤) (A : Atoms 𝓤) (W : Given
     -- what the view and the other parameters own is what the callee asks
     asked : ent 𝓤 entry (C-predict 𝓤 H A mem run .pre to)
     asked =
-        let self-fields = LL.owed (T.the-type (α κs)) (T′.the-laws (α κs)) self _ self-is in
+        let self-fields = LL.owed (D κs) (L κs) self _ self-is in
+        let self-size-is = LL.owes PlaneGeom.the-type PlaneGeom′.the-laws self-size ((self-fields .1 .1 .0) ▹ (self-fields .1 .1 .1 .0) ▹ (self-fields
+        .1 .1 .1 .1 .0) ▹ (self-fields .1 .1 .1 .1 .1 .0) ▹ tt) in
         qed W ((‵ (flft κ₀ q₀) ⊛ ‵ (flft κ₁ q₁) ⊛ ‵ (flft κ₂ q₂) ⊛ ‵ ftrue) ∷ ‵ (owns ((T.the-row (α κs)) ∷ BlockShape.the-row ∷ Stepping.the-row ∷
         (MutSlice (named 1) κ₁ u16) ∷ (MutSlice (named 2) κ₂ u16) ∷ usize ∷ []) a vals) ∷ []) ∵
         move ! (1 ∷ []) $ aside ! $ without ! $ without ! $ aside ! $ aside ! $ without ! $ drop ! $ move ! (2 ∷ []) $
-        opened ! (T.the-type (α κs)) (T′.the-laws (α κs)) (T.struct (α κs) .as-values self) $ aside ! $ aside ! $ without ! $ without ! $ without ! $
-        without ! $ drop ! $ move ! (1 ∷ []) $
-        use1 W (‵ ((ShrSlice (named 0) κ₀ u16) .own (self .upper) ((sliceVal ((self .upper) .ptr) (length ((self .upper) .now))) ∷ [])) ⊛ ‵ ((ShrSlice
-        (named 0) κ₀ u16) .own (self .upper) ((sliceVal ((self .upper) .ptr) (length ((self .upper) .now))) ∷ []))) (shr-slice-copy 𝓤 H A W (named 0) κ₀
-        u16 .twice (self .upper) ((sliceVal ((self .upper) .ptr) (length ((self .upper) .now))) ∷ [])) $ split ! $ move ! (2 ∷ []) $
-        use1 W (‵ ((ShrSlice (named 0) κ₀ u16) .own (self .lower) ((sliceVal ((self .lower) .ptr) (length ((self .lower) .now))) ∷ [])) ⊛ ‵ ((ShrSlice
-        (named 0) κ₀ u16) .own (self .lower) ((sliceVal ((self .lower) .ptr) (length ((self .lower) .now))) ∷ []))) (shr-slice-copy 𝓤 H A W (named 0) κ₀
-        u16 .twice (self .lower) ((sliceVal ((self .lower) .ptr) (length ((self .lower) .now))) ∷ [])) $ split ! $ nothing ! $
+        opened ! (D κs) (L κs) (T.struct (α κs) .as-values self) $ aside ! $ aside ! $ without ! $ without ! $ without ! $ without ! $ drop ! $
+        move ! (1 ∷ []) $ doubled ! (named 0) κ₀ (self .upper) $ move ! (2 ∷ []) $ doubled ! (named 0) κ₀ (self .lower) $ nothing ! $
         fresh ! usize (uint-makes 𝓤 H A W w64) stride stride-is $ move ! (5 ∷ 0 ∷ []) $ fjoin ! $ move ! (5 ∷ 0 ∷ []) $ fjoin ! $ move ! (1 ∷ 0 ∷ []) $
         fjoin ! $ move ! (2 ∷ 0 ∷ []) $ fjoin ! $ fresh ! Stepping.the-row (LL.makes Stepping.the-type Stepping′.the-plain 𝓤 H A) start start-is $
-        fresh ! PlaneGeom.the-row (LL.makes PlaneGeom.the-type PlaneGeom′.the-plain 𝓤 H A) self-size (LL.owes PlaneGeom.the-type PlaneGeom′.the-laws
-        self-size ((self-fields .1 .1 .0) ▹ (self-fields .1 .1 .1 .0) ▹ (self-fields .1 .1 .1 .1 .0) ▹ (self-fields .1 .1 .1 .1 .1 .0) ▹ tt)) $
-        move ! (1 ∷ 0 ∷ []) $ fjoin ! $ move ! (1 ∷ 0 ∷ []) $ fjoin ! $
-        fresh ! Stepping.the-row (LL.makes Stepping.the-type Stepping′.the-plain 𝓤 H A) start start-is $
-        fresh ! PlaneGeom.the-row (LL.makes PlaneGeom.the-type PlaneGeom′.the-plain 𝓤 H A) self-size (LL.owes PlaneGeom.the-type PlaneGeom′.the-laws
-        self-size ((self-fields .1 .1 .0) ▹ (self-fields .1 .1 .1 .0) ▹ (self-fields .1 .1 .1 .1 .0) ▹ (self-fields .1 .1 .1 .1 .1 .0) ▹ tt)) $
+        fresh ! PlaneGeom.the-row (LL.makes PlaneGeom.the-type PlaneGeom′.the-plain 𝓤 H A) self-size self-size-is $ move ! (1 ∷ 0 ∷ []) $ fjoin ! $
+        move ! (1 ∷ 0 ∷ []) $ fjoin ! $ fresh ! Stepping.the-row (LL.makes Stepping.the-type Stepping′.the-plain 𝓤 H A) start start-is $
+        fresh ! PlaneGeom.the-row (LL.makes PlaneGeom.the-type PlaneGeom′.the-plain 𝓤 H A) self-size self-size-is $
         fresh ! BlockShape.the-row (LL.makes BlockShape.the-type BlockShape′.the-plain 𝓤 H A) shape shape-is $ move ! (1 ∷ 0 ∷ []) $ join ! $ frame ! $
         done !
 
@@ -144,17 +143,14 @@ module _ {M : Type 1} (𝓤 : URA M) (H : Heap 𝓤) (A : Atoms 𝓤) (W : Given
     -- the code, statement by statement
     module _ (C : Calls 𝓤 H) (Λ : Loops 𝓤 H) (fm : FmC 𝓤 H (W .laws) C)
         (known-predict : Triple 𝓤 (C #samples·block-inter-predict) (C-predict 𝓤 H A mem run)) where
-      walk : ent 𝓤 entry (WpFn 𝓤 H C Λ code.function
-          ((T′.lowered self) ∷ (BlockShape′.lowered shape) ∷ (Stepping′.lowered start) ∷ (sliceVal (room .ptr) (length (room .now))) ∷ (sliceVal (out .ptr) (length (out .now))) ∷ (vint w64 stride) ∷ [])
-          Post)
+      walk : ent 𝓤 entry (WpFn 𝓤 H C Λ code.function machine Post)
       walk =
-          let self-typed = (LL.lawful (T.the-type (α κs)) (T′.the-laws (α κs)) 𝓤 H A W) .typed self _ self-is .0 .1 in
-          qed W (raw entry ∷ []) ∵ enter ! C Λ code.function ((T′.lowered self) ∷ (BlockShape′.lowered shape) ∷ (Stepping′.lowered start) ∷ (sliceVal
-          (room .ptr) (length (room .now))) ∷ (sliceVal (out .ptr) (length (out .now))) ∷ (vint w64 stride) ∷ []) _ $
+          let self-typed = (LL.lawful (D κs) (L κs) 𝓤 H A W) .typed self _ self-is .0 .1 in
+          qed W (raw entry ∷ []) ∵ enter ! C Λ code.function machine _ $
           alloc1 ! (λ l₀. alloc1 ! (λ l₁. alloc1 ! (λ l₂. alloc1 ! (λ l₃. alloc1 ! (λ l₄. alloc1 ! (λ l₅. alloc1 ! (λ l₆. alloc1 ! (λ l₇. alloc1 ! (λ
           l₈. alloc1 ! (λ l₉. alloc1 ! (λ l₁₀. alloc1 ! (λ l₁₁. alloc1 ! (λ l₁₂. alloc1 ! (λ l₁₃. alloc1 ! (λ l₁₄. alloc1 ! (λ l₁₅. alloc1 ! (λ l₁₆.
           alloc1 ! (λ l₁₇. alloc1 ! (λ l₁₈. alloc1 ! (λ l₁₉. alloc0 ! $ params1 ! $
-          pass1 ! (init ! 36 refl ((LL.lawful (T.the-type (α κs)) (T′.the-laws (α κs)) 𝓤 H A W) .typed self _ self-is .0)) $
+          pass1 ! (init ! 36 refl ((LL.lawful (D κs) (L κs) 𝓤 H A W) .typed self _ self-is .0)) $
           pass1 ! (init ! 34 refl ((LL.lawful BlockShape.the-type BlockShape′.the-laws 𝓤 H A W) .typed shape _ shape-is .0)) $
           pass1 ! (init ! 32 refl ((LL.lawful Stepping.the-type Stepping′.the-laws 𝓤 H A W) .typed start _ start-is .0)) $
           pass1 ! (init ! 30 refl ((mut-slice-lawful 𝓤 H A W (named 1) κ₁ u16) .typed room _ room-is .0)) $
@@ -162,56 +158,40 @@ module _ {M : Type 1} (𝓤 : URA M) (H : Heap 𝓤) (A : Atoms 𝓤) (W : Given
           pass1 ! (init ! 26 refl ((uint-lawful 𝓤 H A W w64) .typed stride _ stride-is .0)) $
           pass0 ! $
           -- self's size
-          assigns ! (of-opd ! (load ! (from ! (fld ! refl (stop !))) (look-in ! 36 (sub ! 2 refl (whole !))))) (from ! (stop !)) (init ! 22 refl (
-            tt,
-            (self-typed .1 .1 .0),
-          )) $
-          assigns ! (of-opd ! (load ! (from ! (fld ! refl (stop !))) (look-in ! 36 (sub ! 3 refl (whole !))))) (from ! (stop !)) (init ! 20 refl (
-            tt,
-            (self-typed .1 .1 .1 .0),
-          )) $
-          assigns ! (of-opd ! (load ! (from ! (fld ! refl (stop !))) (look-in ! 36 (sub ! 4 refl (whole !))))) (from ! (stop !)) (init ! 18 refl (
-            tt,
-            (self-typed .1 .1 .1 .1 .0),
-          )) $
-          assigns ! (of-opd ! (load ! (from ! (fld ! refl (stop !))) (look-in ! 36 (sub ! 5 refl (whole !))))) (from ! (stop !)) (init ! 16 refl (
-            tt,
-            (self-typed .1 .1 .1 .1 .1 .0),
-          )) $
-          assigns ! (agg ! (and-then ! (load ! (from ! (stop !)) (look ! 22 refl)) (and-then ! (load ! (from ! (stop !)) (look ! 20 refl)) (and-then !
-          (load ! (from ! (stop !)) (look ! 18 refl)) (and-then ! (load ! (from ! (stop !)) (look ! 16 refl)) (no-more !)))))) (from ! (stop !)) (init !
-          24 refl (tt, ((self-typed .1 .1 .0) ▹ (self-typed .1 .1 .1 .0) ▹ (self-typed .1 .1 .1 .1 .0) ▹ (self-typed .1 .1 .1 .1 .1 .0) ▹ tt))) $
+          assigns ! (of-opd ! (load ! (from ! (fld ! refl (stop !))) (look-in ! 36 (sub ! 2 refl (whole !))))) (from ! (stop !)) (init ! 22 refl (tt ▹
+          (self-typed .1 .1 .0))) $
+          assigns ! (of-opd ! (load ! (from ! (fld ! refl (stop !))) (look-in ! 36 (sub ! 3 refl (whole !))))) (from ! (stop !)) (init ! 20 refl (tt ▹
+          (self-typed .1 .1 .1 .0))) $
+          assigns ! (of-opd ! (load ! (from ! (fld ! refl (stop !))) (look-in ! 36 (sub ! 4 refl (whole !))))) (from ! (stop !)) (init ! 18 refl (tt ▹
+          (self-typed .1 .1 .1 .1 .0))) $
+          assigns ! (of-opd ! (load ! (from ! (fld ! refl (stop !))) (look-in ! 36 (sub ! 5 refl (whole !))))) (from ! (stop !)) (init ! 16 refl (tt ▹
+          (self-typed .1 .1 .1 .1 .1 .0))) $
+          assigns ! (agg ! (and-then ! (local-at ! 22 refl) (and-then ! (local-at ! 20 refl) (and-then ! (local-at ! 18 refl) (and-then ! (local-at ! 16
+          refl) (no-more !)))))) (from ! (stop !)) (init ! 24 refl (tt ▹ ((self-typed .1 .1 .0) ▹ (self-typed .1 .1 .1 .0) ▹ (self-typed .1 .1 .1 .1 .0)
+          ▹ (self-typed .1 .1 .1 .1 .1 .0) ▹ tt))) $
           -- the bands, and what is lent to write
-          assigns ! (of-opd ! (load ! (from ! (fld ! refl (stop !))) (look-in ! 36 (sub ! 0 refl (whole !))))) (from ! (stop !)) (init ! 14 refl (
-            tt,
-            (self-typed .0),
-          )) $
-          assigns ! (of-opd ! (load ! (from ! (fld ! refl (stop !))) (look-in ! 36 (sub ! 1 refl (whole !))))) (from ! (stop !)) (init ! 12 refl (
-            tt,
-            (self-typed .1 .0),
-          )) $
-          assigns ! (of-opd ! (load ! (from ! (fld ! refl (stop !))) (look-in ! 36 (sub ! 0 refl (whole !))))) (from ! (stop !)) (init ! 10 refl (
-            tt,
-            (self-typed .0),
-          )) $
-          assigns ! (of-opd ! (load ! (from ! (fld ! refl (stop !))) (look-in ! 36 (sub ! 1 refl (whole !))))) (from ! (stop !)) (init ! 8 refl (
-            tt,
-            (self-typed .1 .0),
-          )) $
-          assigns ! (addr ! (from ! (fld ! refl (hop ! (look-in ! 30 (sub ! 0 refl (whole !))) (stop !))))) (from ! (stop !)) (init ! 6 refl (tt, tt)) $
-          assigns ! (agg ! (and-then ! (load ! (from ! (stop !)) (look ! 6 refl)) (and-then ! (load ! (from ! (fld ! refl (stop !))) (look-in ! 30 (sub
-          ! 1 refl (whole !)))) (no-more !)))) (from ! (stop !)) (init ! 4 refl ((mut-slice-lawful 𝓤 H A W erased κ₁ u16) .typed room _ room-is .0)) $
-          assigns ! (addr ! (from ! (fld ! refl (hop ! (look-in ! 28 (sub ! 0 refl (whole !))) (stop !))))) (from ! (stop !)) (init ! 2 refl (tt, tt)) $
-          assigns ! (agg ! (and-then ! (load ! (from ! (stop !)) (look ! 2 refl)) (and-then ! (load ! (from ! (fld ! refl (stop !))) (look-in ! 28 (sub
-          ! 1 refl (whole !)))) (no-more !)))) (from ! (stop !)) (init ! 0 refl ((mut-slice-lawful 𝓤 H A W erased κ₂ u16) .typed out _ out-is .0)) $
+          assigns ! (of-opd ! (load ! (from ! (fld ! refl (stop !))) (look-in ! 36 (sub ! 0 refl (whole !))))) (from ! (stop !)) (init ! 14 refl (tt ▹
+          (self-typed .0))) $
+          assigns ! (of-opd ! (load ! (from ! (fld ! refl (stop !))) (look-in ! 36 (sub ! 1 refl (whole !))))) (from ! (stop !)) (init ! 12 refl (tt ▹
+          (self-typed .1 .0))) $
+          assigns ! (of-opd ! (load ! (from ! (fld ! refl (stop !))) (look-in ! 36 (sub ! 0 refl (whole !))))) (from ! (stop !)) (init ! 10 refl (tt ▹
+          (self-typed .0))) $
+          assigns ! (of-opd ! (load ! (from ! (fld ! refl (stop !))) (look-in ! 36 (sub ! 1 refl (whole !))))) (from ! (stop !)) (init ! 8 refl (tt ▹
+          (self-typed .1 .0))) $
+          assigns ! (addr ! (from ! (fld ! refl (hop ! (look-in ! 30 (sub ! 0 refl (whole !))) (stop !))))) (from ! (stop !)) (init ! 6 refl (tt ▹ tt))
+          $
+          assigns ! (agg ! (and-then ! (local-at ! 6 refl) (and-then ! (load ! (from ! (fld ! refl (stop !))) (look-in ! 30 (sub ! 1 refl (whole !))))
+          (no-more !)))) (from ! (stop !)) (init ! 4 refl ((mut-slice-lawful 𝓤 H A W erased κ₁ u16) .typed room _ room-is .0)) $
+          assigns ! (addr ! (from ! (fld ! refl (hop ! (look-in ! 28 (sub ! 0 refl (whole !))) (stop !))))) (from ! (stop !)) (init ! 2 refl (tt ▹ tt))
+          $
+          assigns ! (agg ! (and-then ! (local-at ! 2 refl) (and-then ! (load ! (from ! (fld ! refl (stop !))) (look-in ! 28 (sub ! 1 refl (whole !))))
+          (no-more !)))) (from ! (stop !)) (init ! 0 refl ((mut-slice-lawful 𝓤 H A W erased κ₂ u16) .typed out _ out-is .0)) $
           -- the call
           move ! (40 ∷ []) $ use1 W (raw (C-predict 𝓤 H A mem run .pre to)) asked $
-          calls-at ! fm (C-predict 𝓤 H A mem run) known-predict to (and-then ! (load ! (from ! (stop !)) (look ! 35 refl)) (and-then ! (load ! (from !
-          (stop !)) (look ! 25 refl)) (and-then ! (load ! (from ! (stop !)) (look ! 33 refl)) (and-then ! (load ! (from ! (stop !)) (look ! 15 refl))
-          (and-then ! (load ! (from ! (stop !)) (look ! 13 refl)) (and-then ! (load ! (from ! (stop !)) (look ! 25 refl)) (and-then ! (load ! (from !
-          (stop !)) (look ! 33 refl)) (and-then ! (load ! (from ! (stop !)) (look ! 11 refl)) (and-then ! (load ! (from ! (stop !)) (look ! 9 refl))
-          (and-then ! (load ! (from ! (stop !)) (look ! 5 refl)) (and-then ! (load ! (from ! (stop !)) (look ! 1 refl)) (and-then ! (load ! (from !
-          (stop !)) (look ! 27 refl)) (no-more !)))))))))))))
+          calls-at ! fm (C-predict 𝓤 H A mem run) known-predict to (and-then ! (local-at ! 35 refl) (and-then ! (local-at ! 25 refl) (and-then !
+          (local-at ! 33 refl) (and-then ! (local-at ! 15 refl) (and-then ! (local-at ! 13 refl) (and-then ! (local-at ! 25 refl) (and-then ! (local-at
+          ! 33 refl) (and-then ! (local-at ! 11 refl) (and-then ! (local-at ! 9 refl) (and-then ! (local-at ! 5 refl) (and-then ! (local-at ! 1 refl)
+          (and-then ! (local-at ! 27 refl) (no-more !)))))))))))))
           (λ u. use1 W (later (some (λ (r : ℕ). ((‵ (flft κ₀ q₀) ⊛ ‵ (flft κ₁ q₁) ⊛ ‵ (flft κ₂ q₂) ⊛ ‵ ftrue) ⊛ ‵ (u32 .own r (u ∷ []))) ⊛ raw (ensured
           𝓤 H A predict.ended (predict.clauses 𝓤 H A mem run) κs ca tt r)))) (id⊢ 𝓤 _) $ await ! tt $ pick ! (λ r.
           split ! $ move ! (1 ∷ []) $
@@ -235,13 +215,12 @@ module _ {M : Type 1} (𝓤 : URA M) (H : Heap 𝓤) (A : Atoms 𝓤) (W : Given
       (C : Calls 𝓤 H) (Λ : Loops 𝓤 H) → FmC 𝓤 H (W .laws) C → Triple 𝓤 (C #samples·block-inter-predict) (C-predict 𝓤 H A mem run) → Walks 𝓤 H A me.ended
       stayed (WpFn 𝓤 H C Λ code.function) (me.clauses 𝓤 H A mem run)
   me-walks C Λ fm known-predict =
-      walked 𝓤 H A me.ended stayed (me.clauses 𝓤 H A mem run) (WpFn 𝓤 H C Λ code.function) (λ κs. (LL.vals (T.the-type (α κs)) (T′.the-laws (α κs)) ▹
-      LL.vals BlockShape.the-type BlockShape′.the-laws ▹ LL.vals Stepping.the-type Stepping′.the-laws ▹ slice-vals ▹ slice-vals ▹ uint-vals w64 ▹ tt))
-      (λ κs. (LL.tells (T.the-type (α κs)) (T′.the-laws (α κs)) ▹ LL.tells BlockShape.the-type BlockShape′.the-laws ▹ LL.tells Stepping.the-type
-      Stepping′.the-laws ▹ mut-slice-tells (named 1) (κs .1 .0) u16 ▹ mut-slice-tells (named 2) (κs .1 .1 .0) u16 ▹ uint-tells w64 ▹ tt)) (λ κs qs
-      bounds a g are. via 𝓤 _ (fst∗ 𝓤 _ (emp 𝓤)) (walk 𝓤 H A W mem run (κs .0) (κs .1 .0) (κs .1 .1 .0) (qs .0) (qs .1 .0) (qs .1 .1 .0) (a .0) (a .1
-      .0) (a .1 .1 .0) (a .1 .1 .1 .0) (a .1 .1 .1 .1 .0) (a .1 .1 .1 .1 .1 .0) (are .0) (are .1 .0) (are .1 .1 .0) (are .1 .1 .1 .0) (are .1 .1 .1 .1
-      .0) (are .1 .1 .1 .1 .1 .0) C Λ fm known-predict))
+      walked 𝓤 H A me.ended stayed (me.clauses 𝓤 H A mem run) (WpFn 𝓤 H C Λ code.function) (λ κs. (LL.vals (D κs) (L κs) ▹ LL.vals BlockShape.the-type
+      BlockShape′.the-laws ▹ LL.vals Stepping.the-type Stepping′.the-laws ▹ slice-vals ▹ slice-vals ▹ uint-vals w64 ▹ tt)) (λ κs. (LL.tells (D κs) (L
+      κs) ▹ LL.tells BlockShape.the-type BlockShape′.the-laws ▹ LL.tells Stepping.the-type Stepping′.the-laws ▹ mut-slice-tells (named 1) (κs .1 .0) u16
+      ▹ mut-slice-tells (named 2) (κs .1 .1 .0) u16 ▹ uint-tells w64 ▹ tt)) (λ κs qs bounds a g are. via 𝓤 _ (fst∗ 𝓤 _ (emp 𝓤)) (walk 𝓤 H A W mem run
+      (κs .0) (κs .1 .0) (κs .1 .1 .0) (qs .0) (qs .1 .0) (qs .1 .1 .0) (a .0) (a .1 .0) (a .1 .1 .0) (a .1 .1 .1 .0) (a .1 .1 .1 .1 .0) (a .1 .1 .1 .1
+      .1 .0) (are .0) (are .1 .0) (are .1 .1 .0) (are .1 .1 .1 .0) (are .1 .1 .1 .1 .0) (are .1 .1 .1 .1 .1 .0) C Λ fm known-predict))
 
 me-meets :
     {M : Type 1} (𝓤 : URA M) (H : Heap 𝓤) (A : Atoms 𝓤) (W : Given 𝓤 H A) (mem : Memory → SProp 𝓤) (run : Routine → Fun 𝓤) (𝓣 : Tables 𝓤 H) → Triple 𝓤
