@@ -56,14 +56,14 @@ def block(text, indent):
     return "\n".join(fill(text, " " * indent, " " * (indent + 4))).replace("\u00a0", " ") + "\n"
 
 
-def decl(indent, name, type_, body, note=None, mark="abbrev "):
+def decl(indent, name, type_, body, note=None, mark="abbrev ", binds=""):
+    """A declaration of one clause, which binds these names."""
     pad = " " * indent
     out = f"{pad}-- {note}\n" if note else ""
     head = f"{pad}{mark}{name} : {type_}"
     out += head + "\n" if len(head) <= WIDTH else f"{pad}{mark}{name} :\n" + wrap(type_, indent + 4)
-    args = name.split()[-1]
-    line = f"{pad}{args} = {body}"
-    out += line + "\n" if len(line) <= WIDTH else f"{pad}{args} =\n" + wrap(body, indent + 4)
+    left = pad + " ".join(f"{name} {binds}".split()) + " ="
+    out += f"{left} {body}\n" if len(left) + 1 + len(body) <= WIDTH else left + "\n" + wrap(body, indent + 4)
     return out + "\n"
 
 
@@ -157,7 +157,6 @@ class View:
     def __init__(self, module, name, size, fields):
         self.module, self.name, self.size, self.fields = module, name, size, fields
         self.denot, self.row, self.slotted = name, "(T.the-row (α κs))", "T.the-row (α κs)"
-        self.spell = self.tell = None
         self.lawful = "(LL.lawful (D κs) (L κs) 𝓤 H A W)"
         self.spell, self.tell = (f"LL.{w} (D κs) (L κs)" for w in ("vals", "tells"))
 
@@ -292,12 +291,12 @@ class Walk:
         self.qs = tup(f"q{sub(i)}" for i in range(self.n))
         self.ghost = f"((κs, {self.qs}, tt, a, vals), tt)"
 
-    def header(self, what):
+    def header(self, what, kinds):
         out = f"-- `{CRATE}::{self.path.replace('.', '::')}` meets its contract: {what}\n"
         out += "-- Written by tools/walks/views.py: an edit of the function or of its callee's contract wants it written anew. Assumes nothing.\n"
         lines = ["KIT"] + self.specs
         seen = []
-        for p in self.ps + [P("", self.view)] + ([P("", self.view.size)] if self.callees and self.view.size else []):
+        for p in self.ps + [P("", k) for k in kinds]:
             if hasattr(p.kind, "uses"):
                 seen += [u for u in p.kind.uses() if u not in seen]
         lines += seen
@@ -306,9 +305,9 @@ class Walk:
         p = f"Rattle.{CRATE}.proofs.{self.path}"
         lines += [f"use {p} as me", f"use {p}.Key.{{name as #{self.key}}}", f"use {p}.Statement as stated", f"use {p}.Code as code"]
         out += "\n".join(lines) + "\n\n"
-        out += decl(0, "α", f"Lfts {self.n} → NamedLft", f"namedLft {self.n} 0 tt κs", "the view's lifetime, its type and its laws").replace("α = ", "α κs = ")
-        out += decl(0, "D", f"Lfts {self.n} → Declared", "T.the-type (α κs)").replace("D = ", "D κs = ")
-        out += decl(0, "L", f"(κs : Lfts {self.n}) → LL.Laws (D κs)", "T′.the-laws (α κs)").replace("L = ", "L κs = ")
+        out += decl(0, "α", f"Lfts {self.n} → NamedLft", f"namedLft {self.n} 0 tt κs", "the view's lifetime, its type and its laws", binds="κs")
+        out += decl(0, "D", f"Lfts {self.n} → Declared", "T.the-type (α κs)", binds="κs")
+        out += decl(0, "L", f"(κs : Lfts {self.n}) → LL.Laws (D κs)", "T′.the-laws (α κs)", binds="κs")
         out += decl(0, "stayed", "Stays (me.ended .signature .params) (me.ended .kept)", tup(p.stay() for p in self.ps),
                     "what is had of each parameter when the function returns: of what it was lent to write, the last value; of the rest, nothing")
         if self.callees:
@@ -348,13 +347,13 @@ class Walk:
                     + "Walks 𝓤 H A me.ended stayed (WpFn 𝓤 H C Λ code.function) (me.clauses 𝓤 H A mem run)",
                     f"walked 𝓤 H A me.ended stayed (me.clauses 𝓤 H A mem run) (WpFn 𝓤 H C Λ code.function) (λ κs. {tup(p.kind.spell for p in self.ps)})"
                     f" (λ κs. {tup(p.kind.tell for p in self.ps)}) (λ κs qs bounds a g are. via 𝓤 _ (fst∗ 𝓤 _ (emp 𝓤))"
-                    f" (walk 𝓤 H A W mem run {args} C Λ {fmn}{known}))", mark="").replace("me-walks =", f"me-walks C Λ {fmn}{known} =")
+                    f" (walk 𝓤 H A W mem run {args} C Λ {fmn}{known}))", mark="", binds=f"C Λ {fmn}{known}")
         fmof = "(fmOf 𝓤 H (W .laws) 𝓣) " if cs else ""
         out += decl(0, "me-meets", GIVEN + " (𝓣 : Tables 𝓤 H) → " + "".join(c.known("𝓣 .C") + " → " for c in cs)
                     + "Meets 𝓤 H A me.signature (WpFn 𝓤 H (𝓣 .C) (𝓣 .Λ) code.function) (me.spec 𝓤 H A mem run)",
                     f"walk-meets 𝓤 H A me.ended stayed W {tup(p.goes(self.n) for p in self.ps)} (me.clauses 𝓤 H A mem run)"
                     f" (WpFn 𝓤 H (𝓣 .C) (𝓣 .Λ) code.function) (WpFn-mono 𝓤 H (W .laws) 𝓣 code.function)"
-                    f" (me-walks 𝓤 H A W mem run (𝓣 .C) (𝓣 .Λ) {fmof}{known})", mark="").replace("me-meets =", f"me-meets 𝓤 H A W mem run 𝓣 {known} =")
+                    f" (me-walks 𝓤 H A W mem run (𝓣 .C) (𝓣 .Λ) {fmof}{known})", mark="", binds=f"𝓤 H A W mem run 𝓣 {known}")
         cited = "".join(f"\n    (cited 𝓤 H (C-{c.alias} 𝓤 H (𝓖 .A) (𝓜 .mem) (𝓡 .run)) 𝓜 𝓡 code.env #{c.key} {c.alias}-def.routine\n"
                         f"    code.calls-{c.key} ({c.alias}-thm.met 𝓤 H 𝓜 𝓖 𝓡))" for c in cs)
         out += f"""pub {self.me}-spec : {{M : Type 1}} → stated.statement M
@@ -404,7 +403,8 @@ unfolding code.routine tablesOf
                 f"split ! $ move ! (1 ∷ []) $ use1 W (some (λ (ws : Lasts {e}.ended κs ca). ‵ (lasts {e}.ended κs ca ws) ⊛ raw (fact 𝓤 (Said r ws))))"
                 " (id⊢ 𝓤 _) $ pick ! (λ ws. split ! $ move ! (1 ∷ []) $ heard ! (Said r ws) (λ e. move ! (1 ∷ []) $ split ! $ move ! (1 ∷ []) $",
                 f"peeks ! {r.kind.row} (Is {r.kind.row}) (shows 𝓤 H A {r.kind.row}) r (u ∷ []) (λ is.",
-                f"land ! (from ! (stop !)) (init ! {self.place(0, shift)} refl ({r.kind.lawful} .typed r _ is .0)) $ returns ! (look ! {self.place(0, shift)} refl) $",
+                f"land ! (from ! (stop !)) (init ! {self.place(0, shift)} refl ({r.kind.lawful} .typed r _ is .0)) $",
+                f"returns ! (look ! {self.place(0, shift)} refl) $",
                 ] + self.frees(shift) + ["by ! (exits r u ws e)" + ")" * (5 + self.locals)]
 
     def code(self, assumed, lines):
@@ -489,7 +489,7 @@ def made(path, view):
     ps = [P(re.sub("[«»]", "", f).replace("_", "-"), k) for f, k in view.fields]
     w = Walk(path, view, 1, ps, [], view, [])
     w.r = P("made", view)
-    out = w.header("the fields are put together.") + w.section()
+    out = w.header("the fields are put together.", [view]) + w.section()
     out += decl(2, "made", view.name, "record { " + "; ".join(f"{f} = {p.name}" for (f, _), p in zip(view.fields, ps)) + " }")
     out += w.relations()
     x = Ctx(["tokens", "owns"])
@@ -527,13 +527,14 @@ def apart(path, view, lifetimes, params, callee, sizes, args, result, specs, sai
         if p.mutable():
             said = said.replace(f"(LAST {p.name})", at("ws", [c.name for c in cps].index(p.name)))
 
-    out = w.header("it takes the view apart and asks the call below.") + w.section()
+    out = w.header("it takes the view apart and asks the call below.", [view, view.size]) + w.section()
     for v in views:
         out += decl(2, f"{v.name}-size", view.size.name, "record { " + "; ".join(f"{view.fields[i][0]} = {field(v.name, i).name}" for i in sized) + " }")
     out += decl(2, "ca", f"Args {callee.alias}.signature κs", tup(p.name for p in cps), "what is handed down")
     out += decl(2, "handed", f"Vals {callee.alias}.signature κs", tup(p.val() + " ∷ []" for p in cps))
     out += decl(2, "to", f"{callee.contract()} .Ghost", f"((κs, {w.qs}, tt, ca, handed), tt)")
-    out += decl(2, "Said", f"{w.r.kind.denot} → Lasts {callee.alias}.ended κs ca → Type 0", said, "what the callee ensures, at the view").replace("Said =", "Said r ws =")
+    out += decl(2, "Said", f"{w.r.kind.denot} → Lasts {callee.alias}.ended κs ca → Type 0", said, "what the callee ensures, at the view",
+                binds="r ws")
     out += w.relations()
 
     x = Ctx(["tokens", "owns"])
@@ -616,16 +617,16 @@ def above(path, view, lifetimes, params, new, callee, rest, result, specs, said)
         said = said.replace(f"(LAST {p.name})", at("ws", [c.name for c in cps].index(p.name)))
     handed = lambda v: tup((v if p.kind is view else p.val()) + " ∷ []" for p in cps)
 
-    out = w.header("it makes a view in a local and passes it on.") + w.section()
+    out = w.header("it makes a view in a local and passes it on.", [view]) + w.section()
     out += decl(2, "made", view.name, "record { " + "; ".join(f"{f} = {p.name}" for (f, _), p in zip(view.fields, group)) + " }")
     out += decl(2, "αᵉ", "NamedLft", "record { mir = erased; lft = κ₀ }", "the lifetime of a local that holds the view")
     out += decl(2, "na", f"Args {new.alias}.signature (κ₀ ▹ tt)", tup(p.name for p in group), "what is handed to `new`, and to the call")
     out += decl(2, "new-handed", f"Vals {new.alias}.signature (κ₀ ▹ tt)", tup(p.val() + " ∷ []" for p in group))
     out += decl(2, "to-new", f"{new.contract()} .Ghost", "((κ₀ ▹ tt, q₀ ▹ tt, tt, na, new-handed), tt)")
     out += decl(2, "ca", f"Args {callee.alias}.signature κs", tup(p.name for p in cps))
-    out += decl(2, "to", f"Val → {callee.contract()} .Ghost", f"((κs, {w.qs}, tt, ca, {handed('v')}), tt)").replace("to =", "to v =")
-    out += decl(2, "Said", f"{w.r.kind.denot} → Lasts {callee.alias}.ended κs ca → Type 0", said, "what the callee ensures, at what the view was made of")\
-        .replace("Said =", "Said r ws =")
+    out += decl(2, "to", f"Val → {callee.contract()} .Ghost", f"((κs, {w.qs}, tt, ca, {handed('v')}), tt)", binds="v")
+    out += decl(2, "Said", f"{w.r.kind.denot} → Lasts {callee.alias}.ended κs ca → Type 0", said,
+                "what the callee ensures, at what the view was made of", binds="r ws")
     others = tokens(range(1, w.n))
     items = [("others", others)] + [(p.name, f"‵ ({p.own()})") for p in lent]
     out += decl(2, "kept", "SProp 𝓤", f"⋆ 𝓤 H A {seq(t for _, t in items)}", "what is kept back while the view is made")
@@ -667,7 +668,7 @@ def above(path, view, lifetimes, params, new, callee, rest, result, specs, said)
     x.list_of(cps)
     x.front("tokens", "list")
     out += "    -- the view that was made, with what was kept, is what the callee asks\n"
-    out += f"    asked : (v : Val) → ent 𝓤 (⋆ 𝓤 H A {have}) ({callee.contract()} .pre (to v))\n    asked v =\n"
+    out += block(f"asked : (v : Val) → ent 𝓤 (⋆ 𝓤 H A {have}) ({callee.contract()} .pre (to v))", 4) + "    asked v =\n"
     out += wrap(f"qed W {have} ∵", 8) + wrap(x.text() + " join ! $ frame ! $ done !", 8) + "\n"
     out += w.exits(callee, cps)
 
@@ -688,8 +689,8 @@ def above(path, view, lifetimes, params, new, callee, rest, result, specs, said)
               f"calls-at ! fm ({new.contract()}) known-{e} to-new {w.operands([w.place(index[p.name], 2) for p in group])} (λ v.",
               f"use1 W (later (some (λ (h : {view.name}). ({tokens([0])} ⊛ ‵ ({view.row} .own h (v ∷ []))) ⊛"
               f" raw (ensured 𝓤 H A {e}.ended ({e}.clauses 𝓤 H A mem run) (κ₀ ▹ tt) na tt h)))) (id⊢ 𝓤 _) $ await ! tt $ pick ! (λ h.",
-              f"split ! $ move ! (1 ∷ []) $ use1 W (some (λ (ws : Lasts {e}.ended (κ₀ ▹ tt) na). ‵ (lasts {e}.ended (κ₀ ▹ tt) na ws) ⊛ raw (fact 𝓤 (h ≡ made))))"
-              " (id⊢ 𝓤 _) $ pick ! (λ ws₀. split ! $ move ! (1 ∷ []) $ heard ! (h ≡ made) (λ e₀. drop ! $ split ! $",
+              f"split ! $ move ! (1 ∷ []) $ use1 W (some (λ (ws : Lasts {e}.ended (κ₀ ▹ tt) na). ‵ (lasts {e}.ended (κ₀ ▹ tt) na ws) ⊛"
+              " raw (fact 𝓤 (h ≡ made)))) (id⊢ 𝓤 _) $ pick ! (λ ws₀. split ! $ move ! (1 ∷ []) $ heard ! (h ≡ made) (λ e₀. drop ! $ split ! $",
               f"rewrite ! 1 (λ (h : {view.name}). ‵ ({view.row} .own h (v ∷ []))) e₀ refl $ move ! (1 ∷ []) $",
               f"peeks ! {view.row} (Is {view.row}) (shows 𝓤 H A {view.row}) made (v ∷ []) (λ made-is.",
               f"land ! (from ! (stop !)) (init ! {w.place(m + 1, 3)} refl (LL.lawful (T.the-type αᵉ) (T′.the-laws αᵉ) 𝓤 H A W .typed made _ made-is .0)) $",

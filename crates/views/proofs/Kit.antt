@@ -16,7 +16,7 @@ pub use ghost.Atoms.{Atoms}
 pub use contract.Lifetimes.{Lfts}
 pub use contract.Monad.{Fun, fact}
 unfoldable pub use contract.Running.{givenOf, tables, tablesOf}
-pub use types.Kit.{Given, ‵, raw, _⊛_, given, ⋆, some, later, _$_, _∵_, !, qed, by, move, drop, use1, use2, use3, split, join, learn, pick}
+pub use types.Kit.{Given, ‵, raw, _⊛_, ⋆, some, later, _$_, _∵_, !, qed, by, move, drop, use1, use2, use3, split, join, pick}
 pub use types.Kit.{rewrite, fsplit, fjoin, feqL, suffices, frame, await, done}
 pub use types.Part.{agg, whole, sub, look-in}
 pub use types.Run.{look, init, forget, stop, hop, fld, from, load, addr, of-opd, and-then, no-more, assigns, land, returns, enter}
@@ -29,11 +29,11 @@ pub use denote.Signed.{sint-makes, sint-vals, sint-tells, sint-lawful}
 pub use denote.Builtin.{u16, u32, usize, i32}
 pub use denote.Ref.{RefT, NamedLft, MutRef, ptr-vals, mut-tells, mut-lawful, now}
 pub use denote.Signature.{plain, namedLft, shrSliceOf}
-pub use denote.Slice.{sliceVal, MutSlice, ShrSlice, slice-vals, shr-slice-tells, shr-slice-lawful, shr-slice-copy, mut-slice-tells, mut-slice-lawful}
-pub use denote.Steps.{owned, peeks, heard, nothing}
+pub use denote.Slice.{sliceVal, MutSlice, ShrSlice, slice-vals, shr-slice-tells, shr-slice-lawful, mut-slice-tells, mut-slice-lawful}
+pub use denote.Steps.{peeks, heard, nothing}
 pub use denote.Struct.Declared.{Declared}
 pub use denote.Struct.Laws as LL
-pub use denote.Struct.Rest.{all-own, own-open, own-shut}
+pub use denote.Struct.Rest.{own-shut}
 pub use denote.Triple.Statement.{Contract, Triple}
 pub use denote.Triple.Call.{calls-at}
 pub use denote.Triple.Entry.{Args, Vals, onEntry}

@@ -166,7 +166,7 @@ pub fn row_answer<'a>(
 ) -> u32
     ensures { λ r. ⌜ r ≡ answer (readRows (lent (geom width height stride «upper_rows») (now (upper .entry)) (now (lower .entry))) y) ⌝ }
 {
-    let mut number = 0;
+    let mut told = 0;
     read_row(
         upper,
         lower,
@@ -175,7 +175,7 @@ pub fn row_answer<'a>(
         stride,
         upper_rows,
         y,
-        &mut number,
+        &mut told,
     );
-    number
+    told
 }

@@ -247,7 +247,8 @@ module _ {M : Type 1} (𝓤 : URA M) (H : Heap 𝓤) (A : Atoms 𝓤) (W : Given
           use1 W (some (λ (ws : Lasts predict.ended κs ca). ‵ (lasts predict.ended κs ca ws) ⊛ raw (fact 𝓤 (Said r ws)))) (id⊢ 𝓤 _) $
           pick ! (λ ws. split ! $ move ! (1 ∷ []) $ heard ! (Said r ws) (λ e. move ! (1 ∷ []) $ split ! $ move ! (1 ∷ []) $
           peeks ! u32 (Is u32) (shows 𝓤 H A u32) r (u ∷ []) (λ is.
-          land ! (from ! (stop !)) (init ! 57 refl ((uint-lawful 𝓤 H A W w32) .typed r _ is .0)) $ returns ! (look ! 57 refl) $
+          land ! (from ! (stop !)) (init ! 57 refl ((uint-lawful 𝓤 H A W w32) .typed r _ is .0)) $
+          returns ! (look ! 57 refl) $
           forget ! 3 refl $ forget ! 5 refl $ forget ! 7 refl $ forget ! 9 refl $ forget ! 11 refl $ forget ! 13 refl $ forget ! 15 refl $
           forget ! 17 refl $ forget ! 19 refl $ forget ! 21 refl $ forget ! 23 refl $ forget ! 25 refl $ forget ! 27 refl $ forget ! 29 refl $
           forget ! 31 refl $ forget ! 33 refl $ forget ! 35 refl $ forget ! 37 refl $ forget ! 39 refl $ forget ! 41 refl $ forget ! 43 refl $

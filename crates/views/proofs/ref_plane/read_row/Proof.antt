@@ -17,9 +17,6 @@ use Rattle.views.specs.Seen.{geom}
 use Rattle.views.specs.declared.ref_plane.RefPlane.{RefPlane}
 use Rattle.views.proofs.ref_plane.RefPlane as T
 use Rattle.views.proofs.ref_plane.RefPlane.Laws as T′
-use Rattle.samples.specs.declared.plane.PlaneGeom.{PlaneGeom}
-use Rattle.samples.proofs.plane.PlaneGeom
-use Rattle.samples.proofs.plane.PlaneGeom.Laws as PlaneGeom′
 use Rattle.views.proofs.ref_plane.RefPlane.new as new
 use Rattle.views.proofs.ref_plane.RefPlane.new.Symbol as new-def
 use Rattle.views.proofs.ref_plane.RefPlane.new.Symbol.{name as #views·ref-plane·RefPlane·new}
@@ -133,7 +130,8 @@ module _ {M : Type 1} (𝓤 : URA M) (H : Heap 𝓤) (A : Atoms 𝓤) (W : Given
         κ₀ u16) ∷ i32 ∷ i32 ∷ usize ∷ usize ∷ []) na new-handed) ∷ []) ∵ join ! $ frame ! $ done !) $ frame ! $ done !
 
     -- the view that was made, with what was kept, is what the callee asks
-    asked : (v : Val) → ent 𝓤 (⋆ 𝓤 H A (‵ ((T.the-row (α κs)) .own made (v ∷ [])) ∷ (‵ (flft κ₀ q₀) ⊛ ‵ ftrue) ∷ raw kept ∷ [])) (C-row 𝓤 H A mem run .pre (to v))
+    asked : (v : Val) → ent 𝓤 (⋆ 𝓤 H A (‵ ((T.the-row (α κs)) .own made (v ∷ [])) ∷ (‵ (flft κ₀ q₀) ⊛ ‵ ftrue) ∷ raw kept ∷ []))
+        (C-row 𝓤 H A mem run .pre (to v))
     asked v =
         qed W (‵ ((T.the-row (α κs)) .own made (v ∷ [])) ∷ (‵ (flft κ₀ q₀) ⊛ ‵ ftrue) ∷ raw kept ∷ []) ∵
         move ! (2 ∷ []) $
@@ -192,7 +190,8 @@ module _ {M : Type 1} (𝓤 : URA M) (H : Heap 𝓤) (A : Atoms 𝓤) (W : Given
           use1 W (some (λ (ws : Lasts row.ended κs ca). ‵ (lasts row.ended κs ca ws) ⊛ raw (fact 𝓤 (Said r ws)))) (id⊢ 𝓤 _) $ pick ! (λ ws. split ! $
           move ! (1 ∷ []) $ heard ! (Said r ws) (λ e. move ! (1 ∷ []) $ split ! $ move ! (1 ∷ []) $
           peeks ! (ShrSlice (named 0) κ₀ u16) (Is (ShrSlice (named 0) κ₀ u16)) (shows 𝓤 H A (ShrSlice (named 0) κ₀ u16)) r (u ∷ []) (λ is.
-          land ! (from ! (stop !)) (init ! 23 refl ((shr-slice-lawful 𝓤 H A W (named 0) κ₀ u16) .typed r _ is .0)) $ returns ! (look ! 23 refl) $
+          land ! (from ! (stop !)) (init ! 23 refl ((shr-slice-lawful 𝓤 H A W (named 0) κ₀ u16) .typed r _ is .0)) $
+          returns ! (look ! 23 refl) $
           forget ! 3 refl $ forget ! 5 refl $ forget ! 7 refl $ forget ! 9 refl $ forget ! 11 refl $ forget ! 13 refl $ forget ! 15 refl $
           forget ! 17 refl $ forget ! 19 refl $ forget ! 21 refl $ forget ! 23 refl $
           move ! (23 ∷ 24 ∷ []) $ free1 ! $ move ! (21 ∷ 22 ∷ []) $ free1 ! $ move ! (19 ∷ 20 ∷ []) $ free1 ! $ move ! (17 ∷ 18 ∷ []) $ free1 ! $

@@ -151,7 +151,8 @@ module _ {M : Type 1} (𝓤 : URA M) (H : Heap 𝓤) (A : Atoms 𝓤) (W : Given
           use1 W (some (λ (ws : Lasts read.ended κs ca). ‵ (lasts read.ended κs ca ws) ⊛ raw (fact 𝓤 (Said r ws)))) (id⊢ 𝓤 _) $ pick ! (λ ws. split ! $
           move ! (1 ∷ []) $ heard ! (Said r ws) (λ e. move ! (1 ∷ []) $ split ! $ move ! (1 ∷ []) $
           peeks ! (ShrSlice (named 0) κ₀ u16) (Is (ShrSlice (named 0) κ₀ u16)) (shows 𝓤 H A (ShrSlice (named 0) κ₀ u16)) r (u ∷ []) (λ is.
-          land ! (from ! (stop !)) (init ! 25 refl ((shr-slice-lawful 𝓤 H A W (named 0) κ₀ u16) .typed r _ is .0)) $ returns ! (look ! 25 refl) $
+          land ! (from ! (stop !)) (init ! 25 refl ((shr-slice-lawful 𝓤 H A W (named 0) κ₀ u16) .typed r _ is .0)) $
+          returns ! (look ! 25 refl) $
           forget ! 3 refl $ forget ! 5 refl $ forget ! 7 refl $ forget ! 9 refl $ forget ! 11 refl $ forget ! 13 refl $ forget ! 15 refl $
           forget ! 17 refl $ forget ! 19 refl $ forget ! 21 refl $ forget ! 23 refl $ forget ! 25 refl $
           move ! (25 ∷ 26 ∷ []) $ free1 ! $ move ! (23 ∷ 24 ∷ []) $ free1 ! $ move ! (21 ∷ 22 ∷ []) $ free1 ! $ move ! (19 ∷ 20 ∷ []) $ free1 ! $
