@@ -416,7 +416,7 @@ unfolding code.routine tablesOf
         return out + "\n"
 
     def exits(self, callee, cps):
-        """What the callee ensures, with what it left, is what is owed."""
+        """What the callee ensures is what is owed, in the view's terms."""
         r = self.r
         have = f"(‵ ({r.kind.row} .own r (u ∷ [])) ∷ {tokens(range(self.n))} ∷ ‵ (lasts {callee.alias}.ended κs ca ws) ∷ [])"
         x = Ctx(["result", "tokens", "lasts"])
@@ -451,7 +451,7 @@ unfolding code.routine tablesOf
             else:
                 x.step("none ! $")
         x.front("had", "result")
-        out = "    -- what the callee ensures, with what it left, is what is owed\n"
+        out = "    -- what the callee ensures is what is owed, in the view's terms; with what it left\n"
         out += block(f"exits : (r : {r.kind.denot}) (u : Val) (ws : Lasts {callee.alias}.ended κs ca) → Said r ws → ent 𝓤 (⋆ 𝓤 H A {have}) (Post u)", 4)
         out += "    exits r u ws e =\n" + wrap(f"qed W {have} ∵", 8) + wrap(f"{x.text()} done !" + ")" * closers, 8) + "\n"
         return out
@@ -533,7 +533,7 @@ def apart(path, view, lifetimes, params, callee, sizes, args, result, specs, sai
     out += decl(2, "ca", f"Args {callee.alias}.signature κs", tup(p.name for p in cps), "what is handed down")
     out += decl(2, "handed", f"Vals {callee.alias}.signature κs", tup(p.val() + " ∷ []" for p in cps))
     out += decl(2, "to", f"{callee.contract()} .Ghost", f"((κs, {w.qs}, tt, ca, handed), tt)")
-    out += decl(2, "Said", f"{w.r.kind.denot} → Lasts {callee.alias}.ended κs ca → Type 0", said, "what the callee ensures, at the view",
+    out += decl(2, "Said", f"{w.r.kind.denot} → Lasts {callee.alias}.ended κs ca → Type 0", said, "what the callee ensures of what is handed down",
                 binds="r ws")
     out += w.relations()
 
@@ -626,7 +626,7 @@ def above(path, view, lifetimes, params, new, callee, rest, result, specs, said)
     out += decl(2, "ca", f"Args {callee.alias}.signature κs", tup(p.name for p in cps))
     out += decl(2, "to", f"Val → {callee.contract()} .Ghost", f"((κs, {w.qs}, tt, ca, {handed('v')}), tt)", binds="v")
     out += decl(2, "Said", f"{w.r.kind.denot} → Lasts {callee.alias}.ended κs ca → Type 0", said,
-                "what the callee ensures, at what the view was made of", binds="r ws")
+                "what the callee ensures of what is handed down", binds="r ws")
     others = tokens(range(1, w.n))
     items = [("others", others)] + [(p.name, f"‵ ({p.own()})") for p in lent]
     out += decl(2, "kept", "SProp 𝓤", f"⋆ 𝓤 H A {seq(t for _, t in items)}", "what is kept back while the view is made")
@@ -722,10 +722,15 @@ def bands(v):
     return [("field", v, 0), ("field", v, 1)]
 
 
+def lent(v):
+    """A view's size and bands, as they are handed down."""
+    return f"{v}-size (now ({v} .upper)) (now ({v} .lower))"
+
+
 def main():
-    seen = "use Rattle.views.specs.Seen.{%s}"
     read = "use Rattle.samples.specs.Plane.{%s}"
-    block_ = ["use Rattle.samples.specs.Call.{call, ref, Outcome}", seen % "plane"]
+    block_ = [read % "lent", "use Rattle.samples.specs.Call.{call, ref, Outcome}"]
+    left = "(now out) (now room) r (LAST out) (LAST room)"
     predict = Callee("predict", "samples", "block_inter_predict", "samples·block-inter-predict")
     room, out, y, number = P("room", MutSlice(1)), P("out", MutSlice(2)), P("y", USIZE), P("number", MutNum(1))
     stride = P("stride", USIZE)
@@ -734,21 +739,20 @@ def main():
     made("ref_plane.RefPlane.new", PLANE)
     apart("ref_plane.RefPlane.row", PLANE, 2, [self, y, number],
           Callee("read", "samples", "row_read", "samples·row-read"), ["self"], bands("self") + [("size", "self"), "y", "number"],
-          BAND, [read % "ReadOutcome", seen % "plane"], "ReadOutcome (plane self) y (LAST number) (now r)")
+          BAND, [read % "lent, ReadOutcome"], f"ReadOutcome (lent {lent('self')}) y (LAST number) (now r)")
     apart("ref_plane.RefPlane.predict", PLANE, 3, [self, P("shape", SHAPE), P("start", STEPPING), room, out, stride],
           predict, ["self"], ["shape"] + ([("size", "self"), "start"] + bands("self")) * 2 + ["room", "out", "stride"],
-          U32, block_, "Outcome (call shape (ref (plane self) start) (ref (plane self) start) stride) (now out) (now room) r (LAST out) (LAST room)")
+          U32, block_, f"Outcome (call shape (ref (lent {lent('self')}) start) (ref (lent {lent('self')}) start) stride) {left}")
     apart("ref_plane.RefPlane.predict_mean", PLANE, 3,
           [self, P("other", PLANE), P("shape", SHAPE), P("start", STEPPING), P("start2", STEPPING), room, out, stride],
           predict, ["self", "other"],
           ["shape", ("size", "self"), "start"] + bands("self") + [("size", "other"), "start2"] + bands("other") + ["room", "out", "stride"],
-          U32, block_, "Outcome (call shape (ref (plane self) start) (ref (plane other) start2) stride) (now out) (now room) r (LAST out) (LAST room)")
+          U32, block_, f"Outcome (call shape (ref (lent {lent('self')}) start) (ref (lent {lent('other')}) start2) stride) {left}")
     above("ref_plane.read_row", PLANE, 2,
           [P("upper", BAND), P("lower", BAND), P("width", I32), P("height", I32), stride, P("rows", USIZE), y, number],
           Callee("new", "views", "ref_plane.RefPlane.new", "views·ref-plane·RefPlane·new"),
           Callee("row", "views", "ref_plane.RefPlane.row", "views·ref-plane·RefPlane·row"), ["y", "number"],
-          BAND, [read % "lent, ReadOutcome", seen % "geom"],
-          "ReadOutcome (lent (geom width height stride rows) (now upper) (now lower)) y (LAST number) (now r)")
+          BAND, [read % "ReadOutcome", "use Rattle.views.specs.Seen.{plane}"], "ReadOutcome (plane made) y (LAST number) (now r)")
     made("ref_frame.RefFrame.new", FRAME)
     apart("ref_frame.predict_inter", FRAME, 3,
           [P("args", Struct("prediction", "inter_pred", "InterPredArgs")), P("grid", Struct("vectors", "inter_mv", "BlockGrid")),
@@ -756,8 +760,8 @@ def main():
            P("dest", Struct("prediction", "inter_pred", "DestGeom"))],
           Callee("predict", "prediction", "predict_inter", "prediction·predict-inter"), ["one", "two"],
           ["args", "grid", "current", "mvs", ("size", "one")] + bands("one") + [("size", "two")] + bands("two") + ["room", "out", "dest"],
-          U32, ["use Rattle.prediction.specs.Predict", seen % "frameSource"],
-          "Predict.Outcome (Predict.whole args grid current mvs (frameSource one) (frameSource two) dest) (now out) (now room) r (LAST out) (LAST room)")
+          U32, ["use Rattle.prediction.specs.Predict"],
+          f"Predict.Outcome (Predict.whole args grid current mvs (Predict.source {lent('one')}) (Predict.source {lent('two')}) dest) {left}")
 
 
 main()

@@ -12,7 +12,6 @@ use Rattle.views.proofs.Kit.{goes-gave-slice, Walks, ends-at, walked, w
 use Rattle.views.proofs.Steps.{_▹_, without, aside, none, fresh, opened, local-at}
 use Rattle.views.proofs.Kit.LL
 use Rattle.prediction.specs.Predict
-use Rattle.views.specs.Seen.{frameSource}
 use Rattle.prediction.specs.declared.inter_pred.InterPredArgs.{InterPredArgs}
 use Rattle.prediction.proofs.inter_pred.InterPredArgs
 use Rattle.prediction.proofs.inter_pred.InterPredArgs.Laws as InterPredArgs′
@@ -122,11 +121,11 @@ module _ {M : Type 1} (𝓤 : URA M) (H : Heap 𝓤) (A : Atoms 𝓤) (W : Given
   abbrev to : C-predict 𝓤 H A mem run .Ghost
   to = ((κs, (q₀ ▹ q₁ ▹ q₂ ▹ tt), tt, ca, handed), tt)
 
-  -- what the callee ensures, at the view
+  -- what the callee ensures of what is handed down
   abbrev Said : ℕ → Lasts predict.ended κs ca → Type 0
   Said r ws =
-      Predict.Outcome (Predict.whole args grid current mvs (frameSource one) (frameSource two) dest) (now out) (now room) r (ws .1 .1 .1 .1 .1 .1 .1 .1
-      .1 .1 .1 .0) (ws .1 .1 .1 .1 .1 .1 .1 .1 .1 .1 .0)
+      Predict.Outcome (Predict.whole args grid current mvs (Predict.source one-size (now (one .upper)) (now (one .lower))) (Predict.source two-size (now
+      (two .upper)) (now (two .lower))) dest) (now out) (now room) r (ws .1 .1 .1 .1 .1 .1 .1 .1 .1 .1 .1 .0) (ws .1 .1 .1 .1 .1 .1 .1 .1 .1 .1 .0)
 
   module _ (args-is : Is InterPredArgs.the-row args ((InterPredArgs′.lowered args) ∷ []))
       (grid-is : Is BlockGrid.the-row grid ((BlockGrid′.lowered grid) ∷ []))
@@ -159,7 +158,7 @@ module _ {M : Type 1} (𝓤 : URA M) (H : Heap 𝓤) (A : Atoms 𝓤) (W : Given
         fresh ! InterPredArgs.the-row (LL.makes InterPredArgs.the-type InterPredArgs′.the-plain 𝓤 H A) args args-is $ move ! (1 ∷ 0 ∷ []) $ join ! $
         frame ! $ done !
 
-    -- what the callee ensures, with what it left, is what is owed
+    -- what the callee ensures is what is owed, in the view's terms; with what it left
     exits : (r : ℕ) (u : Val) (ws : Lasts predict.ended κs ca) → Said r ws → ent 𝓤
         (⋆ 𝓤 H A (‵ (u32 .own r (u ∷ [])) ∷ (‵ (flft κ₀ q₀) ⊛ ‵ (flft κ₁ q₁) ⊛ ‵ (flft κ₂ q₂) ⊛ ‵ ftrue) ∷ ‵ (lasts predict.ended κs ca ws) ∷ []))
         (Post u)

@@ -12,8 +12,8 @@ use Rattle.views.proofs.Kit.{Contract, Triple, calls-at, Args, Vals, on
 use Rattle.views.proofs.Kit.{gave-ref, walkOf, goes-dropped, goes-gave-ref, Walks, ends-at, walked, walk-meets, yes, Lasts, ensured, lasts}
 use Rattle.views.proofs.Steps.{_▹_, without, aside, none, fresh, local-at}
 use Rattle.views.proofs.Kit.LL
-use Rattle.samples.specs.Plane.{lent, ReadOutcome}
-use Rattle.views.specs.Seen.{geom}
+use Rattle.samples.specs.Plane.{ReadOutcome}
+use Rattle.views.specs.Seen.{plane}
 use Rattle.views.specs.declared.ref_plane.RefPlane.{RefPlane}
 use Rattle.views.proofs.ref_plane.RefPlane as T
 use Rattle.views.proofs.ref_plane.RefPlane.Laws as T′
@@ -104,9 +104,9 @@ module _ {M : Type 1} (𝓤 : URA M) (H : Heap 𝓤) (A : Atoms 𝓤) (W : Given
   abbrev to : Val → C-row 𝓤 H A mem run .Ghost
   to v = ((κs, (q₀ ▹ q₁ ▹ tt), tt, ca, (v ∷ [] ▹ (vint w64 y) ∷ [] ▹ (vptr (number .ptr .0) (number .ptr .1)) ∷ [] ▹ tt)), tt)
 
-  -- what the callee ensures, at what the view was made of
+  -- what the callee ensures of what is handed down
   abbrev Said : RefT (List ℕ) → Lasts row.ended κs ca → Type 0
-  Said r ws = ReadOutcome (lent (geom width height stride rows) (now upper) (now lower)) y (ws .1 .1 .0) (now r)
+  Said r ws = ReadOutcome (plane made) y (ws .1 .1 .0) (now r)
 
   -- what is kept back while the view is made
   abbrev kept : SProp 𝓤
@@ -140,7 +140,7 @@ module _ {M : Type 1} (𝓤 : URA M) (H : Heap 𝓤) (A : Atoms 𝓤) (W : Given
         move ! (2 ∷ 0 ∷ []) $ fjoin ! $ fresh ! usize (uint-makes 𝓤 H A W w64) y y-is $ move ! (2 ∷ 0 ∷ []) $ fjoin ! $ move ! (1 ∷ 0 ∷ []) $ join ! $
         frame ! $ done !
 
-    -- what the callee ensures, with what it left, is what is owed
+    -- what the callee ensures is what is owed, in the view's terms; with what it left
     exits : (r : RefT (List ℕ)) (u : Val) (ws : Lasts row.ended κs ca) → Said r ws → ent 𝓤 (⋆ 𝓤 H A
         (‵ ((ShrSlice (named 0) κ₀ u16) .own r (u ∷ [])) ∷ (‵ (flft κ₀ q₀) ⊛ ‵ (flft κ₁ q₁) ⊛ ‵ ftrue) ∷ ‵ (lasts row.ended κs ca ws) ∷ [])) (Post u)
     exits r u ws e =

@@ -12,8 +12,8 @@ use Rattle.views.proofs.Kit.{stay-dropped, gave-slice, walkOf, goes-dro
 use Rattle.views.proofs.Kit.{ensured, lasts}
 use Rattle.views.proofs.Steps.{_▹_, without, aside, none, fresh, opened, doubled, local-at}
 use Rattle.views.proofs.Kit.LL
+use Rattle.samples.specs.Plane.{lent}
 use Rattle.samples.specs.Call.{call, ref, Outcome}
-use Rattle.views.specs.Seen.{plane}
 use Rattle.views.specs.declared.ref_plane.RefPlane.{RefPlane}
 use Rattle.views.proofs.ref_plane.RefPlane as T
 use Rattle.views.proofs.ref_plane.RefPlane.Laws as T′
@@ -98,11 +98,11 @@ module _ {M : Type 1} (𝓤 : URA M) (H : Heap 𝓤) (A : Atoms 𝓤) (W : Given
   abbrev to : C-predict 𝓤 H A mem run .Ghost
   to = ((κs, (q₀ ▹ q₁ ▹ q₂ ▹ tt), tt, ca, handed), tt)
 
-  -- what the callee ensures, at the view
+  -- what the callee ensures of what is handed down
   abbrev Said : ℕ → Lasts predict.ended κs ca → Type 0
   Said r ws =
-      Outcome (call shape (ref (plane self) start) (ref (plane self) start) stride) (now out) (now room) r (ws .1 .1 .1 .1 .1 .1 .1 .1 .1 .1 .0) (ws .1
-      .1 .1 .1 .1 .1 .1 .1 .1 .0)
+      Outcome (call shape (ref (lent self-size (now (self .upper)) (now (self .lower))) start) (ref (lent self-size (now (self .upper)) (now (self
+      .lower))) start) stride) (now out) (now room) r (ws .1 .1 .1 .1 .1 .1 .1 .1 .1 .1 .0) (ws .1 .1 .1 .1 .1 .1 .1 .1 .1 .0)
 
   module _ (self-is : Is (T.the-row (α κs)) self ((T′.lowered self) ∷ [])) (shape-is : Is BlockShape.the-row shape ((BlockShape′.lowered shape) ∷ []))
       (start-is : Is Stepping.the-row start ((Stepping′.lowered start) ∷ [])) (room-is : Is (MutSlice (named 1) κ₁ u16) room
@@ -127,7 +127,7 @@ module _ {M : Type 1} (𝓤 : URA M) (H : Heap 𝓤) (A : Atoms 𝓤) (W : Given
         fresh ! BlockShape.the-row (LL.makes BlockShape.the-type BlockShape′.the-plain 𝓤 H A) shape shape-is $ move ! (1 ∷ 0 ∷ []) $ join ! $ frame ! $
         done !
 
-    -- what the callee ensures, with what it left, is what is owed
+    -- what the callee ensures is what is owed, in the view's terms; with what it left
     exits : (r : ℕ) (u : Val) (ws : Lasts predict.ended κs ca) → Said r ws → ent 𝓤
         (⋆ 𝓤 H A (‵ (u32 .own r (u ∷ [])) ∷ (‵ (flft κ₀ q₀) ⊛ ‵ (flft κ₁ q₁) ⊛ ‵ (flft κ₂ q₂) ⊛ ‵ ftrue) ∷ ‵ (lasts predict.ended κs ca ws) ∷ []))
         (Post u)

@@ -12,8 +12,7 @@ use Rattle.views.proofs.Kit.{stay-dropped, gave-ref, walkOf, goes-dropp
 use Rattle.views.proofs.Kit.{ensured, lasts}
 use Rattle.views.proofs.Steps.{_▹_, without, aside, none, fresh, opened, local-at}
 use Rattle.views.proofs.Kit.LL
-use Rattle.samples.specs.Plane.{ReadOutcome}
-use Rattle.views.specs.Seen.{plane}
+use Rattle.samples.specs.Plane.{lent, ReadOutcome}
 use Rattle.views.specs.declared.ref_plane.RefPlane.{RefPlane}
 use Rattle.views.proofs.ref_plane.RefPlane as T
 use Rattle.views.proofs.ref_plane.RefPlane.Laws as T′
@@ -83,9 +82,9 @@ module _ {M : Type 1} (𝓤 : URA M) (H : Heap 𝓤) (A : Atoms 𝓤) (W : Given
   abbrev to : C-read 𝓤 H A mem run .Ghost
   to = ((κs, (q₀ ▹ q₁ ▹ tt), tt, ca, handed), tt)
 
-  -- what the callee ensures, at the view
+  -- what the callee ensures of what is handed down
   abbrev Said : RefT (List ℕ) → Lasts read.ended κs ca → Type 0
-  Said r ws = ReadOutcome (plane self) y (ws .1 .1 .1 .1 .0) (now r)
+  Said r ws = ReadOutcome (lent self-size (now (self .upper)) (now (self .lower))) y (ws .1 .1 .1 .1 .0) (now r)
 
   module _ (self-is : Is (T.the-row (α κs)) self ((T′.lowered self) ∷ [])) (y-is : Is usize y ((vint w64 y) ∷ []))
       (number-is : Is (MutRef (named 1) κ₁ u32) number ((vptr (number .ptr .0) (number .ptr .1)) ∷ [])) where
@@ -102,7 +101,7 @@ module _ {M : Type 1} (𝓤 : URA M) (H : Heap 𝓤) (A : Atoms 𝓤) (W : Given
         fresh ! PlaneGeom.the-row (LL.makes PlaneGeom.the-type PlaneGeom′.the-plain 𝓤 H A) self-size self-size-is $ move ! (1 ∷ 0 ∷ []) $ fjoin ! $
         move ! (1 ∷ 0 ∷ []) $ fjoin ! $ move ! (1 ∷ 0 ∷ []) $ join ! $ frame ! $ done !
 
-    -- what the callee ensures, with what it left, is what is owed
+    -- what the callee ensures is what is owed, in the view's terms; with what it left
     exits : (r : RefT (List ℕ)) (u : Val) (ws : Lasts read.ended κs ca) → Said r ws → ent 𝓤 (⋆ 𝓤 H A
         (‵ ((ShrSlice (named 0) κ₀ u16) .own r (u ∷ [])) ∷ (‵ (flft κ₀ q₀) ⊛ ‵ (flft κ₁ q₁) ⊛ ‵ ftrue) ∷ ‵ (lasts read.ended κs ca ws) ∷ [])) (Post u)
     exits r u ws e =
