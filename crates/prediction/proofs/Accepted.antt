@@ -36,7 +36,8 @@ use Rattle.samples.specs.Call as Call
 use Rattle.samples.specs.Call.{Call, call, ref, also, kind, starts, outFits, value}
 use Rattle.samples.specs.declared.block_inter_pred.Stepping.{Stepping}
 use Rattle.samples.proofs.Reached.{blend-same}
-use Rattle.prediction.specs.Predict.{Source, Whole, steppingOf, scaleGeom, planeOf, shapeOf, callOf, allowedRef, destFits, blockOk, first, numberOf, painted, after}
+use Rattle.prediction.specs.Predict.{Source, Whole, steppingOf, scaleGeom, planeOf, shapeOf, callOf}
+use Rattle.prediction.specs.Predict.{allowedRef, destFits, blockOk, first, numberOf, painted, after}
 use Rattle.prediction.specs.declared.inter_pred.Led.{Led}
 use Rattle.prediction.specs.Chain.{lead, Ready, paintFrom}
 use Rattle.prediction.proofs.Joined.{leadOne, leadTwo, also-yes, ref-sized}
@@ -172,7 +173,8 @@ module _ (a : Whole) (n m : ℕ) (ok : Accepted a n m) (second : Bool) (s : Sour
       (omega (arith, leb-true (a .args .block) 3 (t .1 .0))) (t .1 .1 .1) (look .vectors) in
       zero-three _ _ _ (both-true (t .0) (t .1 .1 .0)) (ok .grid) legal
 
-  scale-zero : answer (scaleRows (scaleGeom (a .frame) (s .geom)) (a .args .plane) (a .args .x) (a .args .y) (clampMv (a .grid) v (a .args .plane) sx sy .mv)) ≡ 0
+  scale-zero : let p = clampMv (a .grid) v (a .args .plane) sx sy .mv in
+      answer (scaleRows (scaleGeom (a .frame) (s .geom)) (a .args .plane) (a .args .x) (a .args .y) p) ≡ 0
   unfolding allowedRef
   scale-zero =
       zero-four _ _ _ _ (tests .1 .1 .0) (look .size) (ok .place) (clamped-legal (a .grid) v (a .args .plane) sx sy clamp-zero)
