@@ -9,8 +9,8 @@ use mir.Syntax.{w64}
 use mir.Val.{Fits}
 use Rattle.base.specs.Paint.{fill}
 use Rattle.base.proofs.Painted.{length-fill, fill-same}
-use Rattle.kernels.specs.Kernel.{clipped, heldFrom, listed}
-use Rattle.kernels.specs.Copy.{always, threeRuns, still}
+use Rattle.kernels.specs.Kernel.{alike, clipped, heldFrom, listed}
+use Rattle.kernels.specs.Copy.{threeRuns, still}
 use Rattle.kernels.proofs.Loops.{Filling, fill-none}
 
 -- numbers written one by one
@@ -116,13 +116,13 @@ module _ (b last w before d inside : ℕ) (p : before ≡ min (200003 - b) w) (q
   pub runs-still : (max : ℕ) (row l : List ℕ) (at : ℕ)
       → threeRuns l at before inside (w - (before + inside)) (min (listed row 0) max) (clipped max row d) (min (listed row last) max)
       ≡ fill l at w (still max row last b)
-  unfolding always clipped still heldFrom
+  unfolding alike clipped still heldFrom
   runs-still max row l at =
-      let one = run-turn at before before (always (min (listed row 0) max)) (fill-none l at (still max row last b)) (sym (add-zero at))
+      let one = run-turn at before before (alike (min (listed row 0) max)) (fill-none l at (still max row last b)) (sym (add-zero at))
       (sym (zero-add before)) refl
       (λ k h. ap (λ (j : ℕ). min (getD row j 0) max) (at-left b last before k (lower _ _ _ p .0) h)) in
       let two = run-turn (at + before) inside (before + inside) (clipped max row d) one refl refl refl
       (λ k h. ap (λ (j : ℕ). min (getD row j 0) max) (middle k h)) in
-      run-turn (at + before + inside) (w - (before + inside)) w (always (min (listed row last) max)) two (add-assoc at before inside)
+      run-turn (at + before + inside) (w - (before + inside)) w (alike (min (listed row last) max)) two (add-assoc at before inside)
       (parted (before + inside) w (runs-fit .0)) refl
       (λ k h. ap (λ (j : ℕ). min (getD row j 0) max) (right k h)) .is

@@ -1,9 +1,8 @@
 -- Internal: what rows of copies are, on lists and on lifted positions. No definition that a caller reads cites this file. Assumes nothing.
 use Prim.Native.Nat.{ℕ, _+_, _*_, _≤_, _<_, min}
 use mathlib.Core.List.{List}
-use lib.ListN.{getD}
 use Rattle.base.specs.Paint.{fill}
-use Rattle.kernels.specs.Kernel.{clipped, heldFrom}
+use Rattle.kernels.specs.Kernel.{alike, clipped, heldFrom}
 
 -- each of n rows of w numbers, stride apart from place at on, ends within len numbers
 pub record Rows (n stride w at len : ℕ) : Type 0 where
@@ -13,19 +12,11 @@ pub record Rows (n stride w at len : ℕ) : Type 0 where
 unfoldable pub clippedRows : ℕ → List ℕ → ℕ → ℕ → ℕ → ℕ → ℕ
 clippedRows max l at stride i = clipped max l (at + i * stride)
 
--- one sample throughout
-unfoldable pub always : ℕ → ℕ → ℕ
-always x c = x
-
 -- a run of one sample, a run of f, and another of one sample
 abbrev pub threeRuns : List ℕ → ℕ → ℕ → ℕ → ℕ → ℕ → (ℕ → ℕ) → ℕ → List ℕ
 threeRuns l at before inside after x f y =
-    fill (fill (fill l at before (always x)) (at + before) inside f) (at + before + inside) after (always y)
+    fill (fill (fill l at before (alike x)) (at + before) inside f) (at + before + inside) after (alike y)
 
 -- a row of copies of held samples, from the lifted column b on
 unfoldable pub still : ℕ → List ℕ → ℕ → ℕ → ℕ → ℕ
 still max row last b c = min (heldFrom row last b c) max
-
--- the numbers of l from place b on
-unfoldable pub onward : List ℕ → ℕ → ℕ → ℕ
-onward l b c = getD l (b + c) 0

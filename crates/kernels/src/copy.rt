@@ -4,8 +4,8 @@ ghost use mathlib.Core.Path.{_≡_};
 ghost use Prim.Native.Nat.{_+_, _-_, _/_, _%_, _≤_, _<_, min};
 ghost use lib.ListN.{length};
 ghost use Rattle.base.specs.Paint.{fill, paint};
-ghost use Rattle.kernels.specs.Kernel.{clipped, listed, meanOf};
-ghost use Rattle.kernels.specs.Copy.{Rows, clippedRows, always, threeRuns, still, onward};
+ghost use Rattle.kernels.specs.Kernel.{alike, clipped, listed, meanOf, onward};
+ghost use Rattle.kernels.specs.Copy.{Rows, clippedRows, threeRuns, still};
 use crate::rows::lesser;
 use crate::rows::row_clipped;
 
@@ -102,7 +102,7 @@ pub fn rows_copied(
 
 fn row_of(x: u16, n: usize, out: &mut [u16], at: usize)
     requires { ⌜ at + n ≤ length (now out) ⌝ }
-    ensures { λ _. ⌜ now (out .exit) ≡ fill (now (out .entry)) at n (always x) ⌝ }
+    ensures { λ _. ⌜ now (out .exit) ≡ fill (now (out .entry)) at n (alike x) ⌝ }
 {
     let mut c = 0;
     while c < n {

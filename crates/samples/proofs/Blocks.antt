@@ -10,8 +10,7 @@ use Rattle.base.specs.Paint.{fill, paint}
 use Rattle.base.proofs.Painted.{fill-same, paint-at, paint-else, paint-same, paint-over}
 use Rattle.kernels.specs.Taps.{tap}
 use Rattle.samples.specs.Plane.{Lent, plane, rowOf, widthOf, heightOf}
-use Rattle.kernels.specs.Kernel.{apart, ran, seat, level, listed, levels, meanOf, Below}
-use Rattle.kernels.specs.Copy.{onward}
+use Rattle.kernels.specs.Kernel.{apart, ran, seat, level, listed, levels, meanOf, Below, onward}
 use Rattle.samples.specs.Lifted.{acrossFrom, downAt, downEven, blockAt, meanWith, roomAt, HeldRoom}
 use Rattle.samples.proofs.Bands.{row-at}
 use Rattle.kernels.proofs.Filtered.{samples-same, filtered-whole, filtered-max}

@@ -1,19 +1,18 @@
 -- Rows of copies are the horizontal pass at whole columns in steps of 16: a row of the plane, rows of one band, and the band's length.
 -- Assumes nothing.
-use mathlib.Core.Path.{_≡_, refl, sym, ap, _∙_}
+use mathlib.Core.Path.{_≡_, sym, ap, _∙_}
 use mathlib.Core.List.{List}
 use mathlib.Core.Bool.{true, false}
-use Prim.Native.Nat.{ℕ, zero, suc, _+_, _-_, _*_, _/_, _%_, _<_, _≤_, min}
+use Prim.Native.Nat.{ℕ, _+_, _-_, _*_, _/_, _%_, _<_, _≤_, min}
 use native.Mathlib.Nat.{zero-add, add-mul, min-le-right}
 use native.Mathlib.Omega.{arith}
 use borrow.Author.Tests.{leb-true, lt-ltb, le-ltb}
 use lib.Dec.{ltb}
 use lib.IntN.{ℤ}
 use lib.ListN.{length, getD}
-use Rattle.base.specs.Paint.{fill, paint}
 use Rattle.base.proofs.Tests.{and-both}
 use Rattle.kernels.specs.Taps.{tap}
-use Rattle.kernels.specs.Kernel.{apart, clipped, fillRows, heldFrom, level, ran, ranRows, seat}
+use Rattle.kernels.specs.Kernel.{apart, clipped, heldFrom, level, ran, ranRows, seat}
 use Rattle.kernels.specs.Copy.{Rows, clippedRows, still}
 use Rattle.kernels.proofs.Filtered.{filtered-same, filtered-whole}
 use Rattle.samples.specs.Plane.{Lent, plane, rowOf, widthOf, heightOf, holds, fits}
@@ -146,10 +145,3 @@ even-row max taps p l s line start y0 w n same i c ni cw =
       ap (λ (k : ℕ). getD l k 0) place ∙ same i (c + t) ni (omega arith)
           ∙ ap (λ (k : ℕ). plane p (min (y0 + i - 200003) (heightOf (p .geom) - 1)) (min (k - 200003) (widthOf (p .geom) - 1))) column,
     ))
-
--- rows from the first place on are a painted rectangle
-pub rows-painted : (l : List ℕ) (stride w h : ℕ) (f : ℕ → ℕ → ℕ) → fillRows l 0 stride w h f ≡ paint l stride w h f
-unfolding fillRows paint
-rows-painted l stride w zero f = refl
-rows-painted l stride w (suc h) f =
-    rw zero-add (ap (λ (m : List ℕ). fill m (h * stride) w (f h)) (rows-painted l stride w h f))

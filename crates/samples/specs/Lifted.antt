@@ -9,8 +9,7 @@ use lib.IntN.{ℤ, pos}
 use lib.ListN.{getD}
 use Rattle.base.specs.Answer.{row, answer, BLOCK, FILTER, SIZE, START, SHORT}
 use Rattle.base.specs.Number.{within}
-use Rattle.kernels.specs.Kernel.{ran, level, meanOf}
-use Rattle.kernels.specs.Copy.{onward}
+use Rattle.kernels.specs.Kernel.{ran, level, meanOf, onward}
 use Rattle.samples.specs.Plane.{Lent, lent, plane, widthOf, heightOf, sized, fits}
 use Rattle.samples.specs.Call.{Ref, call, kind, starts, outFits}
 use Rattle.samples.specs.declared.block_inter_pred.BlockShape.{BlockShape}

@@ -223,6 +223,35 @@ pub fn scale_mv(geom: ScaleGeom, plane: usize, x: i32, y: i32, mv: PlaneMv) -> R
     judged(r.answer, r.stepping)
 }
 
+/// A call over the search's tables: they come first, what the call has of its own between the place and the sign bias.
+macro_rules! searched {
+    ($call:ident, $tables:expr, $place:expr, $sign_bias:expr, $($own:expr),+) => {{
+        let t = $tables;
+        let previous = t.previous.unwrap_or(Previous { frames: &[], mvs: &[] });
+        // SAFETY: each pointer comes with the length of its slice; the library reads no more and keeps none.
+        unsafe {
+            raw::$call(
+                t.modes.as_ptr(),
+                t.modes.len(),
+                t.frames.as_ptr(),
+                t.frames.len(),
+                t.mvs.as_ptr(),
+                t.mvs.len(),
+                t.subs.as_ptr(),
+                t.subs.len(),
+                previous.frames.as_ptr(),
+                previous.frames.len(),
+                previous.mvs.as_ptr(),
+                previous.mvs.len(),
+                $place.geometry(),
+                $($own),+,
+                raw::SignBias { frame: $sign_bias },
+                t.previous.is_some(),
+            )
+        }
+    }};
+}
+
 /// The candidate search for a target reference frame 1..=3, of a whole block (`None`) or of its sub-block 0..=3.
 ///
 /// # Errors
@@ -245,29 +274,7 @@ pub fn scale_mv(geom: ScaleGeom, plane: usize, x: i32, y: i32, mv: PlaneMv) -> R
 /// # Ok::<(), knobspindle::Error>(())
 /// ```
 pub fn find_mv_refs(tables: &Tables<'_>, place: &Place, target: i32, block: Option<u8>, sign_bias: [bool; 4]) -> Result<MvRefs, Error> {
-    let previous = tables.previous.unwrap_or(Previous { frames: &[], mvs: &[] });
-    // SAFETY: each pointer comes with the length of its slice; the library reads no more and keeps none.
-    let r = unsafe {
-        raw::knobspindle_find_mv_refs(
-            tables.modes.as_ptr(),
-            tables.modes.len(),
-            tables.frames.as_ptr(),
-            tables.frames.len(),
-            tables.mvs.as_ptr(),
-            tables.mvs.len(),
-            tables.subs.as_ptr(),
-            tables.subs.len(),
-            previous.frames.as_ptr(),
-            previous.frames.len(),
-            previous.mvs.as_ptr(),
-            previous.mvs.len(),
-            place.geometry(),
-            target,
-            block.map_or(-1, i32::from),
-            raw::SignBias { frame: sign_bias },
-            tables.previous.is_some(),
-        )
-    };
+    let r = searched!(knobspindle_find_mv_refs, tables, place, sign_bias, target, block.map_or(-1, i32::from));
     judged(r.answer, MvRefs { first: r.first, second: r.second, context: r.context })
 }
 
@@ -296,30 +303,7 @@ pub fn append_sub8x8_mvs(
     own: [Mv; 4],
     sign_bias: [bool; 4],
 ) -> Result<[Mv; 2], Error> {
-    let previous = tables.previous.unwrap_or(Previous { frames: &[], mvs: &[] });
-    // SAFETY: each pointer comes with the length of its slice; the library reads no more and keeps none.
-    let r = unsafe {
-        raw::knobspindle_append_sub8x8_mvs(
-            tables.modes.as_ptr(),
-            tables.modes.len(),
-            tables.frames.as_ptr(),
-            tables.frames.len(),
-            tables.mvs.as_ptr(),
-            tables.mvs.len(),
-            tables.subs.as_ptr(),
-            tables.subs.len(),
-            previous.frames.as_ptr(),
-            previous.frames.len(),
-            previous.mvs.as_ptr(),
-            previous.mvs.len(),
-            place.geometry(),
-            block,
-            target,
-            raw::SubMvs { mvs: own },
-            raw::SignBias { frame: sign_bias },
-            tables.previous.is_some(),
-        )
-    };
+    let r = searched!(knobspindle_append_sub8x8_mvs, tables, place, sign_bias, block, target, raw::SubMvs { mvs: own });
     judged(r.answer, [r.first, r.second])
 }
 

@@ -17,7 +17,8 @@ same-length-2 c = search needs
 
 returns : tie.Need-returns
 returns c =
-    let p = c .before .before .before .before in
+    let mid = c .before .before in
+    let p = mid .before .before in
     rw (p .before .before .before .lists .ensures) at (p .predict-inter .ensures)
 
 pub knobspindle-predict-inter-spec : {M : Type 1} → statement M

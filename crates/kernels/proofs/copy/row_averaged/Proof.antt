@@ -4,8 +4,7 @@ use Prim.Native.Nat.{_+_, _-_, _≤_}
 use native.Mathlib.Omega.{arith}
 use borrow.Author.Needs.{needs}
 use Rattle.base.proofs.Painted.{fill-else}
-use Rattle.kernels.specs.Kernel.{meanOf}
-use Rattle.kernels.specs.Copy.{onward}
+use Rattle.kernels.specs.Kernel.{meanOf, onward}
 use Rattle.kernels.proofs.Loops.{Filling, fill-none, fill-turn}
 use Rattle.kernels.proofs.copy.row_averaged.Statement.{statement}
 use Rattle.kernels.proofs.copy.row_averaged.Tie as tie

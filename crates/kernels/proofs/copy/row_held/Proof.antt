@@ -8,7 +8,10 @@ use Rattle.kernels.proofs.copy.row_held.Statement.{statement}
 use Rattle.kernels.proofs.copy.row_held.Tie as tie
 
 abbrev entry : tie.After-smaller3 → tie.Start
-entry c = let m = c .before .before .before .before in m .before .before .before .before
+entry c =
+    let l = c .before .before .before in
+    let m = l .before .before .before in
+    m .before .before
 
 abbrev before-is : (c : tie.After-smaller3) → let m = c .before .before in let n = m .before .before in let a = entry c .args in
     n .smaller .result ≡ min (200003 - a .b) (a .w)

@@ -2,13 +2,13 @@
 use mathlib.Core.Path.{_≡_, refl}
 use Prim.Native.Nat.{_-_, _≤_}
 use native.Mathlib.Omega.{arith}
-use Rattle.kernels.specs.Copy.{always}
+use Rattle.kernels.specs.Kernel.{alike}
 use Rattle.kernels.proofs.Loops.{Filling, fill-none, fill-turn}
 use Rattle.kernels.proofs.copy.row_of.Statement.{statement}
 use Rattle.kernels.proofs.copy.row_of.Tie as tie
 
 abbrev Inv-loop : tie.InvT-loop
-Inv-loop x n out₀ at c₀ out c = (c ≤ n) × Filling out₀ at c (always x) out
+Inv-loop x n out₀ at c₀ out c = (c ≤ n) × Filling out₀ at c (alike x) out
 
 abbrev μ-loop : tie.MeasureT-loop
 μ-loop x n out₀ at c₀ out c = n - c
@@ -32,7 +32,7 @@ loop-less : tie.Need-loop-less Inv-loop μ-loop
 loop-less c = omega arith
 
 loop-again : tie.Need-loop-again Inv-loop μ-loop
-unfolding always
+unfolding alike
 loop-again c = let l = c .before .loop in (omega arith, fill-turn _ (l .inv .1) refl)
 
 same-length : tie.Need-same-length Inv-loop μ-loop

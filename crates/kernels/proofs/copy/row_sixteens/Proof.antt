@@ -51,7 +51,8 @@ loop-less c = omega arith
 loop-again : tie.Need-loop-again Inv-loop μ-loop
 loop-again c =
     let e2 = c .before .before in
-    let e = e2 .before .before .before .before in
+    let mid = e2 .before .before in
+    let e = mid .before .before in
     let i = e .before .before in
     let l = i .before .loop in
     let m = i .before .before in

@@ -32,7 +32,8 @@ returns c =
 rows-down-requires : tie.Need-rows-down-requires
 rows-down-requires c κs =
     let i = c .before in
-    let s = i .before .before .before .before in
+    let mid = i .before .before in
+    let s = mid .before .before in
     (s .pre .0, (omega (arith, s .pre .1 .0), (omega (arith, s .pre .1 .0), one-below (s .pre .1 .1))))
 
 same-length-2 : tie.Need-same-length-2

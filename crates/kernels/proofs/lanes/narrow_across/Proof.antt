@@ -24,8 +24,10 @@ same-length c = search needs
 returns : tie.Need-returns
 returns c =
     let r = c .before .before in
-    let g = r .before .before .before .before in
-    let s = g .before .before .before .before in
+    let mid = r .before .before in
+    let g = mid .before .before in
+    let mid = g .before .before in
+    let s = mid .before .before in
     let a = s .args in
     rw (g .rows-low-across .ensures) at (r .rows-first .ensures)
     ∙ rows-kept _ (a .out .now) (a .w) (a .h) (a .at) (a .stride) _ (s .pre .1 .0) (omega (arith, s .pre .1))

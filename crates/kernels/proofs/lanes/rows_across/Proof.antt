@@ -15,7 +15,8 @@ bytes-across-requires : tie.Need-bytes-across-requires
 bytes-across-requires c κs =
     let q = c .before in
     let t = q .before in
-    let s = t .before .before .before .before in
+    let mid = t .before .before in
+    let s = mid .before .before in
     (s .pre .0, (omega (arith, s .pre .1 .0), (s .pre .1 .1, t .rows-are-low .ensures (q .if2 .taken))))
 
 same-length : tie.Need-same-length
@@ -25,7 +26,8 @@ returns : tie.Need-returns
 returns c =
     let r = c .before .before in
     let t = r .before .before .before in
-    let s = t .before .before .before .before in
+    let mid = t .before .before in
+    let s = mid .before .before in
     let e : s .args .max ≡ 255 = omega arith in
     rw e (r .bytes-across .ensures)
 

@@ -7,7 +7,8 @@ use Rattle.kernels.proofs.lanes.rows_down.Tie as tie
 
 bytes-down-requires : tie.Need-bytes-down-requires
 bytes-down-requires c κs =
-    let s = c .before .before .before .before in
+    let mid = c .before .before in
+    let s = mid .before .before in
     let e : s .args .max ≡ 255 = omega arith in
     (s .pre .0, (s .pre .1 .0, (s .pre .1 .1 .0, rw e at (s .pre .1 .1 .1))))
 
@@ -17,7 +18,8 @@ same-length c = search needs
 returns : tie.Need-returns
 returns c =
     let r = c .before .before in
-    let s = r .before .before .before .before .before in
+    let mid = r .before .before in
+    let s = mid .before .before .before in
     let e : s .args .max ≡ 255 = omega arith in
     rw e (r .bytes-down .ensures)
 

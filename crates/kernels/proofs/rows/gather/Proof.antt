@@ -15,13 +15,13 @@ use Rattle.kernels.proofs.rows.gather.Statement.{statement}
 use Rattle.kernels.proofs.rows.gather.Tie as tie
 
 abbrev entry : tie.After-fewer → tie.Start
-entry c = c .before .before .before .before .before
+entry c = let mid = c .before .before in mid .before .before .before
 
 abbrev fresh : tie.After-run-same → tie.After-fewer
 fresh c = c .before .before .before
 
 abbrev once : tie.After-run-copied → tie.After-run-same
-once c = c .before .before .before .before
+once c = let mid = c .before .before in mid .before .before
 
 -- where the runs end
 ends : (c : tie.After-fewer)
@@ -91,13 +91,15 @@ sub-run-same-2 c = let e = ends (fresh (once (c .before .before .before))) in le
 
 add-run-same : tie.Need-add-run-same
 add-run-same c =
-    let f = fresh (once (c .before .before .before .before)) in
+    let mid = c .before .before in
+    let f = fresh (once (mid .before .before)) in
     let e = ends f in
     omega (arith, e .fits .0, entry f .pre .3)
 
 run-same-requires-2 : tie.Need-run-same-requires-2
 run-same-requires-2 c κs =
-    let r = c .before .before .before .before in
+    let mid = c .before .before in
+    let r = mid .before .before in
     let f = fresh (once r) in
     let e = ends f in
     rest _ _ _ _ _ (e .fits .0) (entry f .pre .2)
@@ -109,7 +111,8 @@ same-length c = search needs
 returns : tie.Need-returns
 returns c =
     let t = c .before .before in
-    let r = t .before .before .before .before .before in
+    let mid = t .before .before in
+    let r = mid .before .before .before in
     let f = fresh (once r) in
     let a = entry f .args in
     let l = f .before .before .left-of .result in

@@ -16,7 +16,8 @@ scale-mv-requires c κs = search needs
 
 returns : tie.Need-returns
 returns c =
-    let q = c .before .before .before .before in
+    let mid = c .before .before in
+    let q = mid .before .before in
     let t4 = q .before in
     let t3 = t4 .before in
     let t2 = t3 .before .before in

@@ -24,8 +24,10 @@ asked s =
 
 abbrev entry : tie.After-struct-known2 → tie.Start
 entry c =
-    let k = c .before .before .before .before in
-    k .before .before .before .before
+    let mid = c .before .before in
+    let k = mid .before .before in
+    let mid = k .before .before in
+    mid .before .before
 
 -- past the test the part has samples
 some : (c : tie.Else1) → let s = entry (c .before) in (0 < s .args .shape .w) × (0 < s .args .shape .h)

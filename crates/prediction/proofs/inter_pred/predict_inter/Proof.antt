@@ -17,7 +17,8 @@ use Rattle.prediction.proofs.inter_pred.predict_inter.Tie as tie
 abbrev entry : tie.After-judge → tie.Start
 entry c =
     let k = c .before .before .before in
-    k .before .before .before .before
+    let mid = k .before .before in
+    mid .before .before
 
 abbrev asked : tie.Start → Whole
 asked s =

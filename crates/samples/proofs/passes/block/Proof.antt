@@ -18,7 +18,7 @@ use Rattle.samples.proofs.passes.block.Statement.{statement}
 use Rattle.samples.proofs.passes.block.Tie as tie
 
 abbrev entry : tie.After-slice-known2 → tie.Start
-entry c = c .before .before .before .before
+entry c = let mid = c .before .before in mid .before .before
 
 far : (s : tie.Start) → s .args .stepy * (s .args .h - 1) ≤ 32 * 63
 far s = mul-le-mul {n₂ = 32} {m₂ = 63} (omega (arith, s .pre .0)) (omega (arith, s .pre .0))

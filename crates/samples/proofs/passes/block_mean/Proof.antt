@@ -19,7 +19,7 @@ use Rattle.samples.proofs.passes.block_mean.Statement.{statement}
 use Rattle.samples.proofs.passes.block_mean.Tie as tie
 
 abbrev entry : tie.After-slice-known2 → tie.Start
-entry c = c .before .before .before .before
+entry c = let mid = c .before .before in mid .before .before
 
 far : (s : tie.Start) → s .args .stepy * (s .args .h - 1) ≤ 32 * 63
 far s = mul-le-mul {n₂ = 32} {m₂ = 63} (omega (arith, s .pre .0)) (omega (arith, s .pre .0))
@@ -39,7 +39,8 @@ pass-rows-requires c κs =
 
 rows-averaged-requires : tie.Need-rows-averaged-requires
 rows-averaged-requires c κs =
-    let x = c .before .before .before .before in
+    let mid = c .before .before in
+    let x = mid .before .before in
     let s = entry (x .before .before .before) in
     let long = ap length (x .pass-rows .ensures) ∙ length-paint _ _ _ _ _ in
     (omega (arith, s .pre .0, s .pre .1 .0, long), s .pre .1 .1 .1)

@@ -116,7 +116,10 @@ returns-2 c =
     (lower-copy (a .max) (plane s) (a .b) (a .y0) (a .w) (a .n) (in-x t) (in-y t) (s .pre .1 .0) (i .if3 .taken))
 
 rows-held-requires : tie.Need-rows-held-requires
-rows-held-requires c κs = let m = c .before .before .before .before in m .before .before .before .pre
+rows-held-requires c κs =
+    let l = c .before .before .before in
+    let m = l .before .before in
+    m .before .before .pre
 
 same-length-3 : tie.Need-same-length-3
 same-length-3 c = search needs

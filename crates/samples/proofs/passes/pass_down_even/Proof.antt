@@ -8,11 +8,11 @@ use lib.ListN.{length}
 use Rattle.base.proofs.Lift.{Start}
 use Rattle.base.proofs.Painted.{paint-same}
 use Rattle.kernels.specs.Taps.{tap}
+use Rattle.kernels.proofs.Loops.{rows-paint}
 use Rattle.kernels.specs.Kernel.{ran, ranRows, BelowRows}
 use Rattle.samples.specs.Lifted.{downEven}
 use Rattle.samples.proofs.Bands.{holds-row}
 use Rattle.samples.proofs.Blocks.{below-even}
-use Rattle.samples.proofs.Copied.{rows-painted}
 use Rattle.samples.proofs.passes.pass_down_even.Statement.{statement}
 use Rattle.samples.proofs.passes.pass_down_even.Tie as tie
 
@@ -41,7 +41,7 @@ returns c =
     let s = s1 .before .before in
     let a = s .args in
     let f = tap (a .p .filter) (a .p .phase) in
-    r .rows-down .ensures ∙ rows-painted _ _ _ _ _
+    r .rows-down .ensures ∙ rows-paint _ _ _ _ _
     ∙ paint-same _ _ _ _ _ _ (λ i k ih kw. ap (λ (b : ℕ). ran (a .max) f (a .room .now) 64 b k) (zero-add (i * 64)))
 
 pub pass-down-even-spec : {M : Type 1} → statement M

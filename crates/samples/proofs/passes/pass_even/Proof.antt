@@ -10,10 +10,11 @@ use Rattle.base.proofs.Lift.{Start}
 use Rattle.base.proofs.Painted.{paint-same}
 use Rattle.base.proofs.Tests.{and-both}
 use Rattle.kernels.specs.Taps.{tap}
+use Rattle.kernels.proofs.Loops.{rows-paint}
 use Rattle.samples.specs.Plane.{Lent}
 use Rattle.samples.specs.Lifted.{view, inside}
 use Rattle.samples.proofs.Bands.{fits-says, holds-row}
-use Rattle.samples.proofs.Copied.{inside-says, upper-fits, lower-fits, upper-at, lower-at, even-row, rows-painted}
+use Rattle.samples.proofs.Copied.{inside-says, upper-fits, lower-fits, upper-at, lower-at, even-row}
 use Rattle.samples.proofs.passes.pass_even.Statement.{statement}
 use Rattle.samples.proofs.passes.pass_even.Tie as tie
 
@@ -96,7 +97,7 @@ returns c =
     let a = s .args in
     let same = upper-at (a .max) (plane s) (a .start / 16) (a .y0) (a .w + 7) (a .n) (in-x t) (in-y t) (s .pre .1 .1 .1 .1 .0) (i .if2 .taken) in
     rw (s .pre .1 .1 .0 .1) at (r .rows-across .ensures)
-    ∙ rows-painted _ _ _ _ _
+    ∙ rows-paint _ _ _ _ _
     ∙ paint-same _ _ _ _ _ _ (even-row (a .max) (tap (a .p .filter)) (plane s) (a .upper .now) _ _ (a .start) (a .y0) (a .w) (a .n) same)
 
 mul-rows-across-2 : tie.Need-mul-rows-across-2
@@ -131,7 +132,7 @@ returns-2 c =
     let a = s .args in
     let same = lower-at (a .max) (plane s) (a .start / 16) (a .y0) (a .w + 7) (a .n) (in-x t) (in-y t) (s .pre .1 .1 .1 .1 .0) (i .if3 .taken) in
     rw (s .pre .1 .1 .0 .1) at (r .rows-across2 .ensures)
-    ∙ rows-painted _ _ _ _ _
+    ∙ rows-paint _ _ _ _ _
     ∙ paint-same _ _ _ _ _ _ (even-row (a .max) (tap (a .p .filter)) (plane s) (a .lower .now) _ _ (a .start) (a .y0) (a .w) (a .n) same)
 
 pass-across-requires : tie.Need-pass-across-requires

@@ -9,7 +9,8 @@ read-row-requires c κs = search needs
 
 returns : tie.Need-returns
 returns c =
-    let s = c .before .before .before .before in
+    let mid = c .before .before in
+    let s = mid .before .before in
     rw (toZ-ofZ (s .fits .width), toZ-ofZ (s .fits .height)) at (c .read-row .ensures .number)
 
 pub row-answer-spec : {M : Type 1} → statement M
