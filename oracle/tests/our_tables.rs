@@ -47,7 +47,7 @@ fn constant(path: &str, name: &str) -> Vec<i32> {
 
 #[test]
 fn block_sizes() {
-    let specs = source("crates/motion/specs/Sizes.antt");
+    let specs = source("crates/clamping/specs/Sizes.antt");
     assert_eq!(
         signed(part(&specs, "highs =", "abbrev")),
         tables::block_heights()
@@ -57,18 +57,18 @@ fn block_sizes() {
         tables::block_widths()
     );
     assert_eq!(
-        constant("crates/motion/src/partition.rt", "HIGH"),
+        constant("crates/clamping/src/partition.rt", "HIGH"),
         tables::block_heights()
     );
     assert_eq!(
-        constant("crates/motion/src/partition.rt", "WIDE"),
+        constant("crates/clamping/src/partition.rt", "WIDE"),
         tables::block_widths()
     );
 }
 
 #[test]
 fn search_places() {
-    let specs = source("crates/candidates/specs/Places.antt");
+    let specs = source("crates/places/specs/Places.antt");
     assert_eq!(
         signed(part(&specs, "places =", "-- row (part 0)")),
         tables::place_offsets()
@@ -77,7 +77,7 @@ fn search_places() {
 
 #[test]
 fn mode_counters_and_contexts() {
-    let specs = source("crates/candidates/specs/Places.antt");
+    let specs = source("crates/places/specs/Places.antt");
     assert_eq!(
         plain(part(&specs, "counters =", "--")),
         tables::mode_counters()

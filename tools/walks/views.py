@@ -1,5 +1,5 @@
 #!/usr/bin/env python3
-"""Writes the walks of crates/views, the proofs of the functions that have a view in their hands.
+"""Writes the walks of crates/views and crates/frames, the proofs of the functions that have a view in their hands.
 
 Run in the repository's root: python3 tools/walks/views.py && rt fmt
 
@@ -12,8 +12,17 @@ import re
 import textwrap
 
 CRATE = "views"
-ROOT = "crates/views/proofs"
+HOME = "views"  # the crate that has Kit.antt and Steps.antt
 WIDTH = 152
+
+
+def proofs(crate):
+    """The name of a crate's proofs, from the crate whose walks are written."""
+    return f"Rattle.{crate}.proofs" if crate == CRATE else f"Rattle.{crate}.proofs"
+
+
+def folder(crate):
+    return f"crates/{crate}/proofs"
 
 
 # ---- text
@@ -112,7 +121,7 @@ class Vectors:
         return f"(Vectors.val {n})"
 
     def uses(self):
-        return ["use Rattle.vectors.specs.BlockMvs.{BlockMvs}", "use Rattle.views.proofs.Vectors"]
+        return ["use Rattle.vectors.specs.BlockMvs.{BlockMvs}", f"use {proofs(CRATE)}.Vectors"]
 
 
 class Slice:
@@ -164,8 +173,8 @@ class View:
         return f"(T′.lowered {n})"
 
     def uses(self):
-        p = f"Rattle.views.proofs.{self.module}.{self.name}"
-        return [f"use Rattle.views.specs.declared.{self.module}.{self.name}.{{{self.name}}}", f"use {p} as T", f"use {p}.Laws as T′"]
+        p = f"{proofs(CRATE)}.{self.module}.{self.name}"
+        return [f"use Rattle.{CRATE}.specs.declared.{self.module}.{self.name}.{{{self.name}}}", f"use {p} as T", f"use {p}.Laws as T′"]
 
 
 class P:
@@ -271,7 +280,7 @@ class Callee:
         self.alias, self.crate, self.path, self.key = alias, crate, path, key
 
     def uses(self):
-        p = (f"Rattle.{self.crate}.proofs" if self.crate == CRATE else f"Rattle.{self.crate}") + f".proofs.{self.path}"
+        p = f"{proofs(self.crate)}.{self.path}"
         a = self.alias
         return [f"use {p} as {a}", f"use {p}.Symbol as {a}-def", f"use {p}.Symbol.{{name as #{self.key}}}", f"use {p}.Met as {a}-thm"]
 
@@ -302,7 +311,7 @@ class Walk:
         lines += seen
         for c in self.callees:
             lines += c.uses()
-        p = f"Rattle.{CRATE}.proofs.{self.path}"
+        p = f"{proofs(CRATE)}.{self.path}"
         lines += [f"use {p} as me", f"use {p}.Key.{{name as #{self.key}}}", f"use {p}.Statement as stated", f"use {p}.Code as code"]
         out += "\n".join(lines) + "\n\n"
         out += decl(0, "α", f"Lfts {self.n} → NamedLft", f"namedLft {self.n} 0 tt κs", "the view's lifetime, its type and its laws", binds="κs")
@@ -457,10 +466,10 @@ unfolding code.routine tablesOf
         return out
 
     def write(self, text):
-        folder = os.path.join(ROOT, *self.path.split("."))
-        os.makedirs(folder, exist_ok=True)
+        place = os.path.join(folder(CRATE), *self.path.split("."))
+        os.makedirs(place, exist_ok=True)
         text = text.replace("KIT\n", "\n".join(shared(text)) + "\n", 1)
-        with open(os.path.join(folder, "Proof.antt"), "w") as f:
+        with open(os.path.join(place, "Proof.antt"), "w") as f:
             f.write(text)
         print(self.path, text.count("\n"), "lines")
 
@@ -470,8 +479,8 @@ def shared(body):
     words, lines = set(re.split(r"[\s(){},;]+", body)), []
     words |= {f"_{w}_" for w in words}
     for module in ("Kit", "Steps"):
-        path = f"Rattle.{CRATE}.proofs.{module}"
-        text, group = open(os.path.join(ROOT, module + ".antt")).read(), []
+        path = f"{proofs(HOME)}.{module}"
+        text, group = open(os.path.join(folder(HOME), module + ".antt")).read(), []
         names = re.findall(r"^ *(?:abbrev )?pub (\S+) .*:", text, re.M) if module == "Steps" else \
             [n.strip() for names in re.findall(r"pub use \S+\.\{(.*)\}", text) for n in names.split(",")]
         for name in [n for n in names if n in words]:
@@ -480,7 +489,7 @@ def shared(body):
                 group = []
             group.append(name)
         lines.append(f"use {path}.{{{', '.join(group)}}}")
-    return lines + [f"use Rattle.{CRATE}.proofs.Kit.LL"]
+    return lines + [f"use {proofs(HOME)}.Kit.LL"]
 
 
 # ---- the three shapes
@@ -714,7 +723,7 @@ BAND = Slice()
 SHAPE, STEPPING = Struct("samples", "block_inter_pred", "BlockShape"), Struct("samples", "block_inter_pred", "Stepping")
 PLANE = View("ref_plane", "RefPlane", Struct("samples", "plane", "PlaneGeom"),
              [("upper", BAND), ("lower", BAND), ("width", I32), ("height", I32), ("stride", USIZE), ("«upper_rows»", USIZE)])
-FRAME = View("ref_frame", "RefFrame", Struct("prediction", "inter_pred", "RefGeom"),
+FRAME = View("ref_frame", "RefFrame", Struct("judgement", "judging", "RefGeom"),
              [("upper", BAND), ("lower", BAND), ("«frame_width»", I32), ("«frame_height»", I32), ("stride", USIZE), ("«upper_rows»", USIZE)])
 
 
@@ -728,6 +737,7 @@ def lent(v):
 
 
 def main():
+    global CRATE
     read = "use Rattle.samples.specs.Plane.{%s}"
     block_ = [read % "lent", "use Rattle.samples.specs.Call.{call, ref, Outcome}"]
     left = "(now out) (now room) r (LAST out) (LAST room)"
@@ -753,11 +763,12 @@ def main():
           Callee("new", "views", "ref_plane.RefPlane.new", "views·ref-plane·RefPlane·new"),
           Callee("row", "views", "ref_plane.RefPlane.row", "views·ref-plane·RefPlane·row"), ["y", "number"],
           BAND, [read % "ReadOutcome", "use Rattle.views.specs.Seen.{plane}"], "ReadOutcome (plane made) y (LAST number) (now r)")
+    CRATE = "frames"
     made("ref_frame.RefFrame.new", FRAME)
     apart("ref_frame.predict_inter", FRAME, 3,
-          [P("args", Struct("prediction", "inter_pred", "InterPredArgs")), P("grid", Struct("vectors", "inter_mv", "BlockGrid")),
-           P("current", Struct("prediction", "inter_pred", "FrameGeom")), P("mvs", Vectors()), P("one", FRAME), P("two", FRAME), room, out,
-           P("dest", Struct("prediction", "inter_pred", "DestGeom"))],
+          [P("args", Struct("judgement", "judging", "InterPredArgs")), P("grid", Struct("vectors", "inter_mv", "BlockGrid")),
+           P("current", Struct("judgement", "judging", "FrameGeom")), P("mvs", Vectors()), P("one", FRAME), P("two", FRAME), room, out,
+           P("dest", Struct("judgement", "judging", "DestGeom"))],
           Callee("predict", "prediction", "predict_inter", "prediction·predict-inter"), ["one", "two"],
           ["args", "grid", "current", "mvs", ("size", "one")] + bands("one") + [("size", "two")] + bands("two") + ["room", "out", "dest"],
           U32, ["use Rattle.prediction.specs.Predict"],

@@ -18,3 +18,10 @@ legal-row v e = and-left (legal (v .row)) (legal (v .col)) e
 pub legal-col : (v : Mv) → legalMv v ≡ true → legal (v .col) ≡ true
 unfolding legalMv
 legal-col v e = and-right (legal (v .row)) (legal (v .col)) e
+
+-- the components of a legal vector
+pub row-bd : (v : Mv) → legalMv v ≡ true → Bd 32767 (v .row .0)
+row-bd v e = legal-bd (v .row) (legal-row v e)
+
+pub col-bd : (v : Mv) → legalMv v ≡ true → Bd 32767 (v .col .0)
+col-bd v e = legal-bd (v .col) (legal-col v e)

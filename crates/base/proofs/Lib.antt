@@ -1,4 +1,5 @@
 pub mod Answered
+pub mod Anywhere
 pub mod Bd
 pub mod Bits
 pub mod Legal

@@ -3,7 +3,7 @@ use mathlib.Core.Path.{_≡_, refl, sym}
 use mathlib.Core.Bool.{Bool, true, false, _&&_}
 use Prim.Native.Nat.{ℕ, suc, _≤_, _<_}
 use native.Mathlib.Omega.{arith}
-use borrow.Author.Tests.{leb-true, ltb-true}
+use borrow.Author.Tests.{leb-true, ltb-true, le-leb}
 use lib.Dec.{T, leb}
 use lib.IntN.{ℤ, pos, negsuc, natAbs}
 use lib.Signed.{leZ, ltZ, nonNeg}
@@ -75,3 +75,9 @@ and-three a b c e = let p = and-both a b (and-left (a && b) c e) in (p .0, (p .1
 pub and-four : (a b c d : Bool) → (a && b && c && d) ≡ true → (a ≡ true) × ((b ≡ true) × ((c ≡ true) × (d ≡ true)))
 and-four a b c d e =
     let p = and-three a b c (and-left (a && b && c) d e) in (p .0, (p .1 .0, (p .1 .1, and-right (a && b && c) d e)))
+
+-- a number at most m from zero passes the test
+pub abs-between : (m : ℕ) (z : ℤ) → natAbs z ≤ suc m → between (negsuc m) (pos (suc m)) z ≡ true
+unfolding between
+abs-between m (pos n) h = le-leb n (suc m) h
+abs-between m (negsuc n) h = rw (le-leb n m (omega arith))

@@ -10,14 +10,14 @@ use lib.ListN.{getD}
 use Rattle.base.specs.Number.{equal}
 use Rattle.base.specs.declared.units.Mv.{Mv}
 use Rattle.base.proofs.Tests.{clash}
-use Rattle.candidates.specs.Places.{places, offset}
-use Rattle.candidates.specs.Tables.{Tables, frameAt, mvAt, spot, own}
+use Rattle.places.specs.Places.{places, offset}
+use Rattle.records.specs.Tables.{Tables, frameAt, mvAt, spot, own}
 use Rattle.candidates.specs.Offers.{none, offers, run, ofTarget, biasOf, turned, wanted, otherOf, others}
 use Rattle.candidates.specs.Search.{ifInside, subPlace, samePlace, otherPlace, prevSame, prevOther, allOffers, candidates}
 use Rattle.candidates.specs.Scan.{fits, covered, asked, offered, listOf, placeOf, prevOf, subRecord, subPlaceAt, nearestOf}
-use Rattle.candidates.specs.declared.geometry.MvRefGeometry.{MvRefGeometry}
-use Rattle.candidates.specs.declared.geometry.Spot.{Spot}
-use Rattle.candidates.specs.declared.geometry.Spot.the-variants.{Out, Cell}
+use Rattle.records.specs.declared.geometry.MvRefGeometry.{MvRefGeometry}
+use Rattle.records.specs.declared.geometry.Spot.{Spot}
+use Rattle.records.specs.declared.geometry.Spot.the-variants.{Out, Cell}
 use Rattle.candidates.specs.declared.held.Held.{Held}
 use Rattle.candidates.specs.declared.scan.Ask.{Ask}
 use Rattle.candidates.proofs.Folds.{offers-append}

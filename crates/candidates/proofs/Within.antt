@@ -14,16 +14,16 @@ use Rattle.base.specs.Vector.{mv, sameMv}
 use Rattle.base.specs.declared.units.Mv.{Mv}
 use Rattle.base.proofs.Bd.{abs-neg}
 use Rattle.base.proofs.Tests.{and-left, and-right, between-abs}
-use Rattle.candidates.specs.Places.{offset}
-use Rattle.candidates.specs.Tables.{Tables, frameAt, mvAt, subAt, spot, own}
-use Rattle.candidates.specs.Records.{upTo, legalPart, legalParts, legalFrame, legalPair, legalRecord, legalSpot, legalRecords}
+use Rattle.places.specs.Places.{offset}
+use Rattle.records.specs.Tables.{Tables, frameAt, mvAt, subAt, spot, own}
+use Rattle.records.specs.Records.{upTo, legalPart, legalParts, legalFrame, legalPair, legalRecord, legalSpot, legalRecords}
 use Rattle.candidates.specs.Offers.{none, offer, offers, run, ofTarget, subNumber, turned, wanted, otherOf, others, biasOf}
 use Rattle.candidates.specs.Search.{ifInside, subPlace, samePlace, otherPlace, prevSame, prevOther, allOffers, candidates}
-use Rattle.candidates.specs.declared.geometry.MvRefGeometry.{MvRefGeometry}
-use Rattle.candidates.specs.declared.geometry.Spot.{Spot}
-use Rattle.candidates.specs.declared.geometry.Spot.the-variants.{Out, Cell}
+use Rattle.records.specs.declared.geometry.MvRefGeometry.{MvRefGeometry}
+use Rattle.records.specs.declared.geometry.Spot.{Spot}
+use Rattle.records.specs.declared.geometry.Spot.the-variants.{Out, Cell}
 use Rattle.candidates.specs.declared.held.Held.{Held}
-use Rattle.candidates.proofs.Joined.{passed}
+use Rattle.records.proofs.Joined.{passed}
 use Rattle.candidates.proofs.Numbers.{number-small}
 
 pub record Small (v : Mv) : Type 0 where

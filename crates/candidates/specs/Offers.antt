@@ -10,8 +10,8 @@ use Rattle.base.specs.Number.{equal}
 use Rattle.base.specs.Position.{toN}
 use Rattle.base.specs.Vector.{mv, zeroMv, sameMv}
 use Rattle.base.specs.declared.units.Mv.{Mv}
-use Rattle.candidates.specs.Places.{columns}
-use Rattle.candidates.specs.Tables.{frameAt, mvAt}
+use Rattle.places.specs.Places.{columns}
+use Rattle.records.specs.Tables.{frameAt, mvAt}
 use Rattle.candidates.specs.declared.held.Held.{Held}
 
 abbrev pub none : Held

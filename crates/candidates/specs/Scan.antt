@@ -11,69 +11,16 @@ use Rattle.base.specs.Position.{toN}
 use Rattle.base.specs.Number.{equal}
 use Rattle.base.specs.Vector.{sameMv}
 use Rattle.base.specs.declared.units.Mv.{Mv}
-use Rattle.candidates.specs.Places.{counters, contexts}
-use Rattle.candidates.specs.Tables.{Tables, tables, frameAt, mvAt, subAt, spot, own}
-use Rattle.candidates.specs.Records.{upTo, legalPair, legalSpot}
+use Rattle.places.specs.Places.{counters, contexts}
+use Rattle.records.specs.Tables.{Tables, tables, frameAt, mvAt, subAt, spot, own}
+use Rattle.records.specs.Records.{upTo, legalPair, legalSpot}
 use Rattle.candidates.specs.Offers.{run, ofTarget, subNumber, isOther, turned}
 use Rattle.candidates.specs.Search.{ifInside, counted, candidates, context}
-use Rattle.candidates.specs.declared.geometry.MvRefGeometry.{MvRefGeometry}
-use Rattle.candidates.specs.declared.geometry.Spot.{Spot}
-use Rattle.candidates.specs.declared.geometry.Spot.the-variants.{Cell}
+use Rattle.records.specs.declared.geometry.MvRefGeometry.{MvRefGeometry}
+use Rattle.records.specs.declared.geometry.Spot.{Spot}
+use Rattle.records.specs.declared.geometry.Spot.the-variants.{Cell}
 use Rattle.candidates.specs.declared.scan.Ask.{Ask}
 use Rattle.candidates.specs.declared.find.Found.{Found}
-
--- a row and a column of cells that the frame has: their cell is small
-pub record Placed (g : MvRefGeometry) (y x : ℤ) : Type 0 where
-  pub row : toN y < 8192
-  pub cols : toN (g .«mi_cols») ≤ 8192
-  pub col : toN x < 8192
-
--- n = mi_rows x mi_cols
-abbrev pub cells : MvRefGeometry → ℕ
-cells g = toN (g .«mi_rows») * toN (g .«mi_cols»)
-
--- r is a mode's counter; a mode that is none counts nothing
-pub record Counted (mode r : ℕ) : Type 0 where
-  pub is : r ≡ getD counters mode 0
-  pub small : r ≤ 9
-
--- r is the component x, which is one of 16 bits
-pub record Part (x r : ℤ) : Type 0 where
-  pub is : r ≡ x
-  pub small : mag r < 2 ^ 15
-
--- a vector of 16-bit components
-pub record Narrow (v : Mv) : Type 0 where
-  pub row : mag (v .row .0) < 2 ^ 15
-  pub col : mag (v .col .0) < 2 ^ 15
-
--- r is the vector v, which was read from a table of 16-bit components
-pub record Read (v r : Mv) : Type 0 where
-  pub is : r ≡ v
-  pub narrow : Narrow r
-
--- tables of frames and vectors that hold n records
-pub record Pairs (n : ℕ) (fs vs : List ℤ) : Type 0 where
-  pub frames : 2 * n ≤ length fs
-  pub mvs : 4 * n ≤ length vs
-
--- all four tables of the frame
-pub record Room (n : ℕ) (ms : List ℕ) (fs vs ss : List ℤ) : Type 0 where
-  pub modes : n ≤ length ms
-  pub pairs : Pairs n fs vs
-  pub subs : 16 * n ≤ length ss
-
--- the previous tables, if the previous frame is used
-unfoldable pub PrevRoom : Bool → ℕ → List ℤ → List ℤ → Type 0
-PrevRoom usePrev n fs vs = usePrev ≡ true → Pairs n fs vs
-
--- the records of places 0, 1, .., n - 1 are legal
-unfoldable pub legalPlaces : Tables → MvRefGeometry → ℕ → Bool
-legalPlaces t g n = upTo n (λ (k : ℕ). legalSpot t (spot g k))
-
--- the previous record is legal, if the previous frame is used
-unfoldable pub legalPrev : Bool → List ℤ → List ℤ → ℕ → Bool
-legalPrev usePrev fs vs i = cond usePrev (legalPair fs vs i) true
 
 -- ---- steps 2 and 3 in one: they differ in what they ask of a list
 

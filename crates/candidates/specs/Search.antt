@@ -5,12 +5,12 @@ use mathlib.Core.List.{List, [], _++_}
 use lib.IntN.{ℤ}
 use lib.ListN.{getD}
 use Rattle.base.specs.declared.units.Mv.{Mv}
-use Rattle.candidates.specs.Places.{offset, counters, contexts}
-use Rattle.candidates.specs.Tables.{Tables, mvAt, subAt, spot, own}
+use Rattle.places.specs.Places.{offset, counters, contexts}
+use Rattle.records.specs.Tables.{Tables, mvAt, subAt, spot, own}
 use Rattle.candidates.specs.Offers.{none, offers, run, ofTarget, subNumber, others}
-use Rattle.candidates.specs.declared.geometry.MvRefGeometry.{MvRefGeometry}
-use Rattle.candidates.specs.declared.geometry.Spot.{Spot}
-use Rattle.candidates.specs.declared.geometry.Spot.the-variants.{Out, Cell}
+use Rattle.records.specs.declared.geometry.MvRefGeometry.{MvRefGeometry}
+use Rattle.records.specs.declared.geometry.Spot.{Spot}
+use Rattle.records.specs.declared.geometry.Spot.the-variants.{Out, Cell}
 use Rattle.candidates.specs.declared.held.Held.{Held}
 
 -- what a place offers, given what its record offers; a place that is not inside offers nothing

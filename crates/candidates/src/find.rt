@@ -4,16 +4,15 @@ ghost use mathlib.Core.Path.{_≡_};
 ghost use Prim.Native.Nat.{_+_, _≤_, _<_};
 ghost use lib.IntN.{pos, negsuc};
 ghost use Rattle.base.specs.Number.{between};
-ghost use Rattle.candidates.specs.Places as Places;
-ghost use Rattle.candidates.specs.Tables as Tables;
+ghost use Rattle.records.specs.Tables as Tables;
 ghost use Rattle.candidates.specs.Offers as Offers;
 ghost use Rattle.candidates.specs.Search as Search;
 ghost use Rattle.candidates.specs.Scan as Scan;
-use crate::geometry::MvRefGeometry;
-use crate::geometry::Spot;
 use crate::held::Held;
 use crate::scan::Ask;
 use base::Mv;
+use records::MvRefGeometry;
+use records::Spot;
 
 // The two candidates before clamping, and the context.
 pub struct Found {
@@ -28,7 +27,7 @@ fn counted(modes: &[u8], s: Spot) -> usize
 {
     match s {
         Spot::Out => 0,
-        Spot::Cell(i) => crate::places::counter_of(modes[i]),
+        Spot::Cell(i) => places::counter_of(modes[i]),
     }
 }
 
@@ -38,7 +37,7 @@ fn context(modes: &[u8], one: Spot, two: Spot) -> u8
     requires { ⌜ Scan.ModeAt two (now modes) ⌝ }
     ensures { λ r. ⌜ r ≡ Scan.contextAt (now (modes .entry)) one two ⌝ }
 {
-    crate::places::context_of(counted(modes, one) + counted(modes, two))
+    places::context_of(counted(modes, one) + counted(modes, two))
 }
 
 fn sub_record(frames: &[i8], subs: &[i16], i: usize, number: usize, target: i32, h: Held) -> Held
@@ -46,11 +45,11 @@ fn sub_record(frames: &[i8], subs: &[i16], i: usize, number: usize, target: i32,
     requires { ⌜ number < 4 ⌝ }
     ensures { λ r. ⌜ r ≡ Offers.offers h (Scan.subRecord (now (frames .entry)) (now (subs .entry)) target number i) ⌝ }
 {
-    if crate::tables::frame_at(frames, i, 0) == target {
-        return crate::held::add(h, crate::tables::sub_at(subs, i, 0, number));
+    if records::frame_at(frames, i, 0) == target {
+        return crate::held::add(h, records::sub_at(subs, i, 0, number));
     }
-    if crate::tables::frame_at(frames, i, 1) == target {
-        return crate::held::add(h, crate::tables::sub_at(subs, i, 1, number));
+    if records::frame_at(frames, i, 1) == target {
+        return crate::held::add(h, records::sub_at(subs, i, 1, number));
     }
     h
 }
@@ -81,8 +80,8 @@ fn nearest(
     requires { ⌜ between (negsuc 0) (pos 3) block ≡ true ⌝ }
     ensures { λ r. ⌜ r ≡ Offers.offers Offers.none (Scan.nearestOf (now (frames .entry)) (now (subs .entry)) near one two target block) ⌝ }
 {
-    let first = crate::places::sub_number(block, crate::places::step_of(near, 0, 1));
-    let second = crate::places::sub_number(block, crate::places::step_of(near, 1, 1));
+    let first = crate::sub_block::sub_number(block, places::step_of(near, 0, 1));
+    let second = crate::sub_block::sub_number(block, places::step_of(near, 1, 1));
     let h = sub_place(frames, subs, one, first, target, crate::held::none_held());
     sub_place(frames, subs, two, second, target, h)
 }
@@ -110,9 +109,9 @@ pub fn search(
         (now («prev_frames» .entry)) (now («prev_mvs» .entry))) g target block «sign_bias» «use_prev»
         ⌝ }
 {
-    let near = crate::places::places_of(g.mi_size);
-    let one = crate::geometry::spot_of(near, g, 0);
-    let two = crate::geometry::spot_of(near, g, 1);
+    let near = places::places_of(g.mi_size);
+    let one = records::spot_of(near, g, 0);
+    let two = records::spot_of(near, g, 1);
     let same = Ask {
         target,
         sign_bias,

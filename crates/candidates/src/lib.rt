@@ -1,19 +1,11 @@
-// The candidate search over lent tables, before clamping: places, records, offers.
+// The candidate search over lent tables, before clamping: what each place offers, and which two are held.
 mod find;
-mod geometry;
 mod held;
-mod places;
-mod records;
 mod scan;
-mod tables;
+mod sub_block;
 
 pub use find::Found;
 pub use find::search;
-pub use geometry::MvRefGeometry;
-pub use geometry::Spot;
-pub use geometry::grid_ok;
 pub use held::Held;
 pub use held::add;
 pub use held::none_held;
-pub use records::legal_records;
-pub use records::long_enough;

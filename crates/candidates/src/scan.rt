@@ -6,15 +6,16 @@ ghost use Prim.Native.Nat.{_+_, _-_, _≤_, _<_};
 ghost use lib.IntN.{negℤ};
 ghost use lib.ListN.{getD};
 ghost use Rattle.base.specs.Vector.{mv};
-ghost use Rattle.candidates.specs.Places as Places;
-ghost use Rattle.candidates.specs.Tables as Tables;
+ghost use Rattle.places.specs.Places as Places;
+ghost use Rattle.records.specs.Lent as Lent;
+ghost use Rattle.records.specs.Tables as Tables;
 ghost use Rattle.candidates.specs.Offers as Offers;
 ghost use Rattle.candidates.specs.Scan as Scan;
-use crate::geometry::MvRefGeometry;
-use crate::geometry::Spot;
 use crate::held::Held;
 use base::Eighth;
 use base::Mv;
+use records::MvRefGeometry;
+use records::Spot;
 
 // What a scan asks of a list: the target frame in step 2, another frame in step 3.
 pub struct Ask {
@@ -35,25 +36,22 @@ fn fits(ask: Ask, frame: i32) -> bool
 
 // List 0 leaves nothing for list 1: "The first list" alone offers in step 2, and step 3 skips list 1 "when both lists' vectors were equal".
 fn covered(frames: &[i8], mvs: &[i16], i: usize, ask: Ask) -> bool
-    requires { ⌜ Scan.Pairs (i + 1) (now frames) (now mvs) ⌝ }
+    requires { ⌜ Lent.Pairs (i + 1) (now frames) (now mvs) ⌝ }
     ensures { λ r. ⌜ r ≡ Scan.covered (now (frames .entry)) (now (mvs .entry)) ask i ⌝ }
 {
     if ask.other {
-        base::same_mv(
-            crate::tables::mv_at(mvs, i, 0),
-            crate::tables::mv_at(mvs, i, 1),
-        )
+        base::same_mv(records::mv_at(mvs, i, 0), records::mv_at(mvs, i, 1))
     } else {
-        crate::tables::frame_at(frames, i, 0) == ask.target
+        records::frame_at(frames, i, 0) == ask.target
     }
 }
 
 fn asked(frames: &[i8], mvs: &[i16], i: usize, list: usize, ask: Ask) -> bool
-    requires { ⌜ Scan.Pairs (i + 1) (now frames) (now mvs) ⌝ }
+    requires { ⌜ Lent.Pairs (i + 1) (now frames) (now mvs) ⌝ }
     requires { ⌜ list < 2 ⌝ }
     ensures { λ r. ⌜ r ≡ Scan.asked (now (frames .entry)) (now (mvs .entry)) ask i list ⌝ }
 {
-    if fits(ask, crate::tables::frame_at(frames, i, list)) {
+    if fits(ask, records::frame_at(frames, i, list)) {
         if list == 1 {
             !covered(frames, mvs, i, ask)
         } else {
@@ -73,7 +71,7 @@ fn bias_of(bias: &[bool], frame: i32) -> bool
 }
 
 fn negated(v: Mv) -> Mv
-    requires { ⌜ Scan.Narrow v ⌝ }
+    requires { ⌜ Lent.Narrow v ⌝ }
     ensures { λ r. ⌜ r ≡ mv (negℤ (v .row .0)) (negℤ (v .col .0)) ⌝ }
 {
     Mv {
@@ -84,7 +82,7 @@ fn negated(v: Mv) -> Mv
 
 // "The vector is negated when the sign bias differs". Where the frame is the target it never does.
 fn turned(ask: Ask, frame: i32, v: Mv) -> Mv
-    requires { ⌜ Scan.Narrow v ⌝ }
+    requires { ⌜ Lent.Narrow v ⌝ }
     ensures { λ r. ⌜ r ≡ Offers.turned (ask .«sign_bias») frame (ask .target) v ⌝ }
 {
     let bias = ask.sign_bias;
@@ -96,14 +94,14 @@ fn turned(ask: Ask, frame: i32, v: Mv) -> Mv
 }
 
 fn offered(frames: &[i8], mvs: &[i16], i: usize, list: usize, ask: Ask) -> Mv
-    requires { ⌜ Scan.Pairs (i + 1) (now frames) (now mvs) ⌝ }
+    requires { ⌜ Lent.Pairs (i + 1) (now frames) (now mvs) ⌝ }
     requires { ⌜ list < 2 ⌝ }
     ensures { λ r. ⌜ r ≡ Scan.offered (now (frames .entry)) (now (mvs .entry)) ask i list ⌝ }
 {
     turned(
         ask,
-        crate::tables::frame_at(frames, i, list),
-        crate::tables::mv_at(mvs, i, list),
+        records::frame_at(frames, i, list),
+        records::mv_at(mvs, i, list),
     )
 }
 
@@ -118,13 +116,13 @@ pub(crate) fn scan(
     held: Held,
 ) -> Held
     requires { ⌜ (Tables.gridOk g ≡ true) × (near ≡ getD Places.places (g .«mi_size») []) × (from ≤ 8) ⌝ }
-    requires { ⌜ Scan.Pairs (Scan.cells g) (now frames) (now mvs) ⌝ }
+    requires { ⌜ Lent.Pairs (Lent.cells g) (now frames) (now mvs) ⌝ }
     ensures { λ r. ⌜ r ≡ Offers.offers held (Offers.run (Scan.placeOf (now (frames .entry)) (now (mvs .entry)) g ask) (8 - from) from) ⌝ }
 {
     let mut h = held;
     let mut k = from;
     'places: while k < 8 {
-        let s = crate::geometry::spot_of(near, g, k);
+        let s = records::spot_of(near, g, k);
         match s {
             Spot::Out => {}
             Spot::Cell(i) => {
@@ -147,7 +145,7 @@ pub(crate) fn scan(
 }
 
 fn one_list(frames: &[i8], mvs: &[i16], i: usize, list: usize, ask: Ask, h: Held) -> Held
-    requires { ⌜ Scan.Pairs (i + 1) (now frames) (now mvs) ⌝ }
+    requires { ⌜ Lent.Pairs (i + 1) (now frames) (now mvs) ⌝ }
     requires { ⌜ list < 2 ⌝ }
     ensures { λ r. ⌜ r ≡ Offers.offers h (Scan.listOf (now (frames .entry)) (now (mvs .entry)) ask i list) ⌝ }
 {
@@ -168,11 +166,11 @@ pub(crate) fn previous(
     held: Held,
 ) -> Held
     requires { ⌜ Tables.gridOk g ≡ true ⌝ }
-    requires { ⌜ Scan.PrevRoom «use_prev» (Scan.cells g) (now «prev_frames») (now «prev_mvs») ⌝ }
+    requires { ⌜ Lent.PrevRoom «use_prev» (Lent.cells g) (now «prev_frames») (now «prev_mvs») ⌝ }
     ensures { λ r. ⌜ r ≡ Offers.offers held (Scan.prevOf (now («prev_frames» .entry)) (now («prev_mvs» .entry)) g ask «use_prev») ⌝ }
 {
     if use_prev {
-        let i = crate::geometry::own(g);
+        let i = records::own(g);
         let h = one_list(prev_frames, prev_mvs, i, 0, ask, held);
         one_list(prev_frames, prev_mvs, i, 1, ask, h)
     } else {

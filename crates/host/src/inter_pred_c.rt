@@ -3,10 +3,10 @@ ghost use Rattle.host.specs.InC as InC;
 ghost use Rattle.prediction.specs.Predict.{source, whole, Outcome};
 use crate::vectors_c::BlockMvs;
 use crate::vectors_c::lists;
-use prediction::DestGeom;
-use prediction::FrameGeom;
-use prediction::InterPredArgs;
-use prediction::RefGeom;
+use judgement::DestGeom;
+use judgement::FrameGeom;
+use judgement::InterPredArgs;
+use judgement::RefGeom;
 use vectors::BlockGrid;
 
 #[no_mangle]

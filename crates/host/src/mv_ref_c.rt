@@ -1,13 +1,13 @@
 // The sub-8x8 list and the best vectors of crate vectors.
 ghost use mathlib.Core.Path.{_≡_};
-ghost use Rattle.candidates.specs.Tables.{tables};
-ghost use Rattle.vectors.specs.MvRef.{appendMvs, bestMvs};
+ghost use Rattle.records.specs.Tables.{tables};
+ghost use Rattle.lists.specs.MvRef.{appendMvs, bestMvs};
 ghost use Rattle.host.specs.InC as InC;
 use crate::vectors_c::SignBias;
 use crate::vectors_c::list;
 use base::Mv;
-use candidates::MvRefGeometry;
-use vectors::MvPair;
+use lists::MvPair;
+use records::MvRefGeometry;
 
 // The vectors of a block's four sub-blocks in one list.
 #[repr(C)]
@@ -37,7 +37,7 @@ pub extern "C" fn knobspindle_append_sub8x8_mvs(
     let bias = sign_bias.frame;
     let four = own.mvs;
     let of = list(four);
-    vectors::append_sub8x8_mvs(
+    lists::append_sub8x8_mvs(
         modes,
         frames,
         mvs,
@@ -62,5 +62,5 @@ pub extern "C" fn knobspindle_find_best_ref_mvs(
 ) -> MvPair
     ensures { λ r. ⌜ r ≡ bestMvs geometry first second allowed ⌝ }
 {
-    vectors::find_best_ref_mvs(geometry, first, second, allowed)
+    lists::find_best_ref_mvs(geometry, first, second, allowed)
 }

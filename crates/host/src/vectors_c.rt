@@ -3,16 +3,16 @@ ghost use mathlib.Core.Path.{_≡_};
 ghost use Rattle.vectors.specs.Select.{selectMv};
 ghost use Rattle.vectors.specs.Clamp.{clampMv};
 ghost use Rattle.vectors.specs.Scale.{scaleMv};
-ghost use Rattle.vectors.specs.MvRef.{findMvRefs};
-ghost use Rattle.candidates.specs.Tables.{tables};
+ghost use Rattle.lists.specs.MvRef.{findMvRefs};
+ghost use Rattle.records.specs.Tables.{tables};
 ghost use Rattle.host.specs.InC as InC;
 use base::Eighth;
 use base::Mv;
 use base::PlaneMv;
-use candidates::MvRefGeometry;
+use lists::MvRefs;
+use records::MvRefGeometry;
 use vectors::BlockGrid;
 use vectors::ClampedMv;
-use vectors::MvRefs;
 use vectors::ScaleGeom;
 use vectors::ScaledMv;
 use vectors::SelectedMv;
@@ -118,7 +118,7 @@ pub extern "C" fn knobspindle_find_mv_refs(
         geometry target block («sign_bias» .frame) «use_prev» ⌝ }
 {
     let bias = sign_bias.frame;
-    vectors::find_mv_refs(
+    lists::find_mv_refs(
         modes,
         frames,
         mvs,

@@ -1,6 +1,5 @@
-pub mod Accepted
 pub mod Cutting
 pub mod Instance
-pub mod Joined
+pub mod Ready
 pub mod Outcomes
 pub mod Starred

@@ -10,12 +10,12 @@ use Rattle.base.specs.Position as Position
 use Rattle.base.specs.Position.{hold, place}
 use Rattle.base.specs.Vector.{sameMv}
 use Rattle.base.specs.declared.units.Mv.{Mv}
-use Rattle.candidates.specs.Places.{places, offset, counters, contexts}
-use Rattle.candidates.specs.Tables.{inside, spotAt, spot}
+use Rattle.places.specs.Places.{places, offset, counters, contexts}
+use Rattle.records.specs.Tables.{inside, spotAt, spot}
 use Rattle.candidates.specs.Offers.{offer, offers}
 use Rattle.candidates.specs.Search.{counted, context}
 use Rattle.vectors.specs.Select.{halved, quartered}
-use Rattle.vectors.specs.MvRef.{clampPart, before, subList}
+use Rattle.lists.specs.MvRef.{clampPart, before, subList}
 use Rattle.vectors.specs.Scale.{scaleOf, lumaOf, fracOf, startOf, stepOf, sized, allowed, usable, placed, legal16, startAxis, stepAxis, scaleMv}
 use Rattle.kernels.specs.Filter.{filtered}
 use Rattle.kernels.specs.Taps.{regular, smooth, sharp, bilinear, filters, tap}

@@ -1,88 +1,10 @@
--- Internal: what the code's chain of calls gives before it is known to be accepted. No definition that a caller reads cites this file;
--- proofs/Joined.antt joins it to those that do. Assumes nothing.
+-- Internal: the call that the code makes below. No definition that a caller reads cites this file. Assumes nothing.
 use Prim.Native.Nat.{ℕ, _-_, _<_, _≤_}
 use mathlib.Core.Path.{_≡_}
-use mathlib.Core.Bool.{Bool, true, false, _&&_, _||_, cond}
-use mathlib.Core.List.{List, [], _∷_}
-use lib.Dec.{leb, eqb}
-use lib.IntN.{pos}
-use Rattle.base.specs.Answer.{unless, answer, BLOCK, GRID, FILTER, SIZE, START, SHORT, VECTOR}
-use Rattle.base.specs.Number.{within}
+use mathlib.Core.List.{List}
 use Rattle.base.specs.Paint.{paint, onPart}
-use Rattle.base.specs.Vector.{sixteenth}
-use Rattle.base.specs.declared.units.Eighth.{Eighth}
-use Rattle.vectors.specs.Select.{selectMv}
-use Rattle.vectors.specs.Clamp.{clampMv}
-use Rattle.vectors.specs.Scale.{scaleMv}
-use Rattle.vectors.specs.declared.inter_mv.BlockGrid.{BlockGrid}
-use Rattle.samples.specs.Plane.{Lent, readRows}
 use Rattle.samples.specs.Call as Call
 use Rattle.samples.specs.Call.{Call, value}
-use Rattle.prediction.specs.Predict.{Whole, scaleGeom, steppingOf, numberOf}
-use Rattle.prediction.specs.declared.inter_pred.InterPredArgs.{InterPredArgs}
-use Rattle.prediction.specs.declared.inter_pred.FrameGeom.{FrameGeom}
-use Rattle.prediction.specs.declared.inter_pred.RefGeom.{RefGeom}
-use Rattle.prediction.specs.declared.inter_pred.Led.{Led}
-use Rattle.prediction.specs.declared.inter_pred.Judged.{Judged}
-
--- the three calls of a list whose vectors stand for both lists
-unfoldable pub lead : InterPredArgs → BlockGrid → FrameGeom → RefGeom → List (List Eighth) → Led
-lead b g f s l =
-    let v = selectMv (l ∷ l ∷ []) false (b .plane) (g .«mi_size») (b .block) (f .«subsampling_x») (f .«subsampling_y») in
-    let p = clampMv g (v .mv) (b .plane) (f .«subsampling_x») (f .«subsampling_y») in
-    let q = scaleMv (scaleGeom f s) (b .plane) (b .x) (b .y) (p .mv) in
-    record {
-      select = v .answer;
-      clamp = p .answer;
-      scale = q .answer;
-      from = record { «start_x» = q .«start_x»; «start_y» = q .«start_y»; «step_x» = q .«step_x»; «step_y» = q .«step_y» };
-    }
-
--- no list at all: accepted, and nowhere
-abbrev nowhere : Led
-nowhere =
-    record {
-      select = 0;
-      clamp = 0;
-      scale = 0;
-      from =
-          record {
-            «start_x» = sixteenth (pos 0);
-            «start_y» = sixteenth (pos 0);
-            «step_x» = sixteenth (pos 0);
-            «step_y» = sixteenth (pos 0);
-          };
-    }
-
-unfoldable pub leadAlso : InterPredArgs → BlockGrid → FrameGeom → RefGeom → List (List Eighth) → Led
-leadAlso b g f s l = cond (b .average) (lead b g f s l) nowhere
-
--- row 0 can be read
-unfoldable pub lends : Lent → Bool
-lends p = eqb (answer (readRows p 0)) 0
-
-unfoldable pub kind : ℕ → ℕ → Bool
-kind filter depth = leb filter 3 && (eqb depth 8 || eqb depth 10 || eqb depth 12)
-
--- a call answered something other than the number
-unfoldable pub not : ℕ → ℕ → Bool
-not number given = cond (eqb given number) false true
-
-unfoldable pub refusal : InterPredArgs → Led → Led → Bool → ℕ
-refusal b one two lent =
-    unless BLOCK (not BLOCK (one .select) && within 1 64 (b .w) && within 1 64 (b .h))
-    (unless GRID (not GRID (one .clamp))
-    (unless FILTER (kind (b .filter) (b .depth))
-    (unless SIZE (not SIZE (one .scale) && not SIZE (two .scale))
-    (unless START (not START (one .scale))
-    (unless SHORT lent
-    (unless VECTOR (not VECTOR (one .select) && not VECTOR (two .select)) 0))))))
-
--- what a call is told: its number and, where that is 0, the definition's starts and steps
-pub record Judgement (a : Whole) (n m : ℕ) (r : Judged) : Type 0 where
-  pub number : r .number ≡ numberOf a n m
-  pub one : numberOf a n m ≡ 0 → r .from ≡ steppingOf a false (a .one)
-  pub two : numberOf a n m ≡ 0 → a .args .average ≡ true → r .from2 ≡ steppingOf a true (a .two)
 
 -- where a block has samples, its call is accepted on the part of an output of n samples from place i on, with a room of m
 pub record Ready (k : Call) (i n m : ℕ) : Type 0 where

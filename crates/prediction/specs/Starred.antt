@@ -10,11 +10,11 @@ use Rattle.base.specs.Example.{Example, example}
 use Rattle.base.specs.Vector.{sixteenth, planeMv}
 use Rattle.base.specs.declared.units.Eighth.{Eighth}
 use Rattle.base.specs.declared.units.Mv.{Mv}
-use Rattle.candidates.specs.Tables.{tables}
+use Rattle.records.specs.Tables.{tables}
 use Rattle.candidates.specs.Search.{context}
-use Rattle.candidates.specs.declared.geometry.MvRefGeometry.{MvRefGeometry}
+use Rattle.records.specs.declared.geometry.MvRefGeometry.{MvRefGeometry}
 use Rattle.vectors.specs.Select.{halved, quartered}
-use Rattle.vectors.specs.MvRef.{clampPart, subList}
+use Rattle.lists.specs.MvRef.{clampPart, subList}
 use Rattle.vectors.specs.Scale.{scaleMv}
 use Rattle.vectors.specs.declared.inter_mv.ScaledMv.{ScaledMv}
 use Rattle.samples.specs.Sample.{blend}

@@ -13,7 +13,7 @@ use Rattle.base.specs.declared.units.Mv.{Mv}
 use Rattle.base.specs.declared.units.PlaneMv.{PlaneMv}
 use Rattle.base.proofs.Answered.{unless-zero}
 use Rattle.base.proofs.Tests.{and-left, and-right, and-both, and-four, between-abs}
-use Rattle.motion.specs.BlockMvs.{BlockMvs, legalBlock}
+use Rattle.selection.specs.BlockMvs.{BlockMvs, legalBlock}
 use Rattle.vectors.specs.Select.{selectRows, partnered}
 use Rattle.vectors.specs.Clamp.{clampRows, onAxis}
 use Rattle.vectors.specs.Scale.{scaleRows, usable, placed, legal16}

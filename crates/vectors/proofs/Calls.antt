@@ -8,7 +8,7 @@ use Rattle.base.specs.Answer.{Lowest}
 use Rattle.base.specs.declared.units.Mv.{Mv}
 use Rattle.base.specs.declared.units.PlaneMv.{PlaneMv}
 use Rattle.base.proofs.Answered.{lowest}
-use Rattle.motion.specs.BlockMvs.{BlockMvs}
+use Rattle.selection.specs.BlockMvs.{BlockMvs}
 use Rattle.vectors.specs.Select.{selectRows, selectMv}
 use Rattle.vectors.specs.Clamp.{clampRows, clampMv}
 use Rattle.vectors.specs.Scale.{scaleRows, scaleMv}

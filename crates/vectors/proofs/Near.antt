@@ -5,13 +5,15 @@ use Prim.Native.Nat.{ℕ}
 use Rattle.base.specs.Answer.{answer}
 use Rattle.base.specs.Number.{between}
 use Rattle.base.specs.declared.units.Mv.{Mv}
-use Rattle.motion.specs.Sizes.{highs, wides, high, wide}
-use Rattle.motion.proofs.Near.{abs-between, row-bd, col-bd, grid-near}
+use Rattle.clamping.specs.Sizes.{highs, wides, high, wide}
+use Rattle.base.proofs.Tests.{abs-between}
+use Rattle.base.proofs.Legal.{row-bd, col-bd}
+use Rattle.clamping.proofs.Near.{grid-near}
 use Rattle.vectors.specs.Clamp.{shift, clampRows, clampMv}
 use Rattle.vectors.specs.Scale.{legal16}
 use Rattle.vectors.specs.declared.inter_mv.BlockGrid.{BlockGrid}
 use Rattle.vectors.proofs.Accepted.{clamp-ok}
-use Rattle.vectors.proofs.Kept.{size-kept}
+use Rattle.clamping.proofs.Tested.{size-kept}
 
 pub clamped-legal : (g : BlockGrid) (v : Mv) (plane : ℕ) (sx sy : Bool) → answer (clampRows g v plane) ≡ 0
     → legal16 (clampMv g v plane sx sy .mv) ≡ true

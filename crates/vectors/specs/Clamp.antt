@@ -1,4 +1,4 @@
--- A vector held near the frame, or the refusal: the standard's 8.5.2.2. One axis of it stands below, in `motion`. Assumes nothing.
+-- A vector held near the frame, or the refusal: the standard's 8.5.2.2. One axis of it stands below, in `clamping`. Assumes nothing.
 use Prim.Native.Nat.{ℕ}
 use mathlib.Core.Bool.{Bool, _&&_, cond}
 use mathlib.Core.List.{List, [], _∷_}
@@ -7,10 +7,10 @@ use lib.IntN.{pos}
 use Rattle.base.specs.Answer.{Row, row, answer, BLOCK, GRID, VECTOR}
 use Rattle.base.specs.Vector.{planeMv, legalMv}
 use Rattle.base.specs.declared.units.Mv.{Mv}
-use Rattle.motion.specs.Sizes.{high, wide}
+use Rattle.clamping.specs.Sizes.{high, wide}
 use Rattle.vectors.specs.declared.inter_mv.BlockGrid.{BlockGrid}
 use Rattle.vectors.specs.declared.inter_mv.ClampedMv.{ClampedMv}
-unfoldable pub use Rattle.motion.specs.Clamp.{shift, edge, margin, clampAxis, onAxis}
+unfoldable pub use Rattle.clamping.specs.Clamp.{shift, edge, margin, clampAxis, onAxis}
 
 -- rows 1, 2 ("without a tile") and 9
 abbrev pub clampRows : BlockGrid → Mv → ℕ → List Row

@@ -1,5 +1,5 @@
 -- Where a plane's block starts in the reference and how it steps, or the refusal: the standard's 8.5.2.3. One axis of it stands below, in
--- `motion`. Assumes nothing.
+-- `scaling`. Assumes nothing.
 use Prim.Native.Nat.{ℕ}
 use mathlib.Core.Bool.{_&&_, cond}
 use mathlib.Core.List.{List, [], _∷_}
@@ -10,7 +10,7 @@ use Rattle.base.specs.Vector.{sixteenth}
 use Rattle.base.specs.declared.units.PlaneMv.{PlaneMv}
 use Rattle.vectors.specs.declared.inter_mv.ScaleGeom.{ScaleGeom}
 use Rattle.vectors.specs.declared.inter_mv.ScaledMv.{ScaledMv}
-unfoldable pub use Rattle.motion.specs.Scale.{scaleOf, lumaOf, fracOf, startOf, stepOf, sized, allowed, usable, placed, legal16, startAxis, stepAxis}
+unfoldable pub use Rattle.scaling.specs.Scale.{scaleOf, lumaOf, fracOf, startOf, stepOf, sized, allowed, usable, placed, legal16, startAxis, stepAxis}
 
 -- rows 1, 5, 6 and 9
 abbrev pub scaleRows : ScaleGeom → ℕ → ℤ → ℤ → PlaneMv → List Row

@@ -1,14 +1,14 @@
--- The vector that a plane takes, or the refusal: the standard's 8.5.2.1. What the vector is made of stands below, in `motion`. Assumes nothing.
+-- The vector that a plane takes, or the refusal: the standard's 8.5.2.1. What the vector is made of stands below, in `selection`. Assumes nothing.
 use Prim.Native.Nat.{ℕ}
 use mathlib.Core.Bool.{Bool, _&&_, cond}
 use mathlib.Core.List.{List, [], _∷_}
 use lib.Dec.{leb, eqb}
 use Rattle.base.specs.Answer.{Row, row, answer, BLOCK, VECTOR}
 use Rattle.base.specs.Vector.{zeroMv}
-use Rattle.motion.specs.BlockMvs.{BlockMvs, legalBlock}
+use Rattle.selection.specs.BlockMvs.{BlockMvs, legalBlock}
 use Rattle.vectors.specs.declared.inter_mv.SelectedMv.{SelectedMv}
-pub use Rattle.motion.specs.Select.{listOf}
-unfoldable pub use Rattle.motion.specs.Select.{halved, quartered, pair, quad, allFour, own, apart, partnered, chosen}
+pub use Rattle.selection.specs.Select.{listOf}
+unfoldable pub use Rattle.selection.specs.Select.{halved, quartered, pair, quad, allFour, own, apart, partnered, chosen}
 
 -- row 1: "block size above 12; sub-block not 0..3; plane above 2; a partner sub-block that doesn't exist"; row 9
 abbrev pub selectRows : BlockMvs → ℕ → ℕ → ℕ → Bool → Bool → List Row

@@ -27,9 +27,9 @@ fn select_refusal(
 ) -> u32
     ensures { λ r. ⌜ r ≡ answer (Select.selectRows mvs plane size block sx sy) ⌝ }
 {
-    let partner = motion::partnered(plane, size, block, sx, sy);
+    let partner = selection::partnered(plane, size, block, sx, sy);
     let right = (size <= 12) & (block <= 3) & (plane <= 2) & partner;
-    let vectors = motion::is_legal_block(mvs);
+    let vectors = selection::is_legal_block(mvs);
     base::unless(base::BLOCK, right, base::unless(base::VECTOR, vectors, 0))
 }
 
@@ -56,8 +56,8 @@ pub fn select_mv(
             mv: zero,
         };
     }
-    let list = motion::list_of(second);
-    let mv = motion::chosen(mvs, list, plane, size, block, sx, sy);
+    let list = selection::list_of(second);
+    let mv = selection::chosen(mvs, list, plane, size, block, sx, sy);
     SelectedMv { answer: 0, mv }
 }
 
@@ -83,8 +83,8 @@ fn clamp_refusal(grid: BlockGrid, v: Mv, plane: usize) -> u32
     ensures { λ r. ⌜ r ≡ answer (Clamp.clampRows grid v plane) ⌝ }
 {
     let block = (grid.mi_size <= 12) & (plane <= 2);
-    let place = motion::on_axis(grid.mi_rows, grid.mi_row)
-        & motion::on_axis(grid.mi_cols, grid.mi_col);
+    let place = clamping::on_axis(grid.mi_rows, grid.mi_row)
+        & clamping::on_axis(grid.mi_cols, grid.mi_col);
     let vector = base::is_legal_mv(v);
     base::unless(
         base::BLOCK,
@@ -108,12 +108,12 @@ pub fn clamp_mv(grid: BlockGrid, mv: Mv, plane: usize, sx: bool, sy: bool) -> Cl
             mv: zero,
         };
     }
-    let high = motion::num_8x8_high(grid.mi_size as usize);
-    let wide = motion::num_8x8_wide(grid.mi_size as usize);
-    let down = motion::shift(plane, sy);
-    let row = motion::clamp_axis(grid.mi_rows, high, grid.mi_row, mv.row, down);
-    let across = motion::shift(plane, sx);
-    let col = motion::clamp_axis(grid.mi_cols, wide, grid.mi_col, mv.col, across);
+    let high = clamping::num_8x8_high(grid.mi_size as usize);
+    let wide = clamping::num_8x8_wide(grid.mi_size as usize);
+    let down = clamping::shift(plane, sy);
+    let row = clamping::clamp_axis(grid.mi_rows, high, grid.mi_row, mv.row, down);
+    let across = clamping::shift(plane, sx);
+    let col = clamping::clamp_axis(grid.mi_cols, wide, grid.mi_col, mv.col, across);
     let held = PlaneMv { row, col };
     ClampedMv {
         answer: 0,
@@ -148,10 +148,10 @@ fn scale_refusal(geom: ScaleGeom, plane: usize, x: i32, y: i32, v: PlaneMv) -> u
     ensures { λ r. ⌜ r ≡ answer (Scale.scaleRows geom plane x y v) ⌝ }
 {
     let block = plane <= 2;
-    let size = motion::usable(geom.ref_frame_width, geom.frame_width)
-        & motion::usable(geom.ref_frame_height, geom.frame_height);
-    let start = motion::placed(x) & motion::placed(y);
-    let vector = motion::is_legal16(v);
+    let size = scaling::usable(geom.ref_frame_width, geom.frame_width)
+        & scaling::usable(geom.ref_frame_height, geom.frame_height);
+    let start = scaling::placed(x) & scaling::placed(y);
+    let vector = scaling::is_legal16(v);
     let rest = base::unless(base::START, start, base::unless(base::VECTOR, vector, 0));
     base::unless(base::BLOCK, block, base::unless(base::SIZE, size, rest))
 }
@@ -170,7 +170,7 @@ pub fn scale_mv(geom: ScaleGeom, plane: usize, x: i32, y: i32, mv: PlaneMv) -> S
             step_y: Sixteenth(0),
         };
     }
-    let start_x = motion::start_axis(
+    let start_x = scaling::start_axis(
         geom.ref_frame_width,
         geom.frame_width,
         plane,
@@ -178,7 +178,7 @@ pub fn scale_mv(geom: ScaleGeom, plane: usize, x: i32, y: i32, mv: PlaneMv) -> S
         x,
         mv.col,
     );
-    let start_y = motion::start_axis(
+    let start_y = scaling::start_axis(
         geom.ref_frame_height,
         geom.frame_height,
         plane,
@@ -186,8 +186,8 @@ pub fn scale_mv(geom: ScaleGeom, plane: usize, x: i32, y: i32, mv: PlaneMv) -> S
         y,
         mv.row,
     );
-    let step_x = motion::step_axis(geom.ref_frame_width, geom.frame_width);
-    let step_y = motion::step_axis(geom.ref_frame_height, geom.frame_height);
+    let step_x = scaling::step_axis(geom.ref_frame_width, geom.frame_width);
+    let step_y = scaling::step_axis(geom.ref_frame_height, geom.frame_height);
     ScaledMv {
         answer: 0,
         start_x,

@@ -1,9 +1,6 @@
 // Views: what is lent of a reference, in one value beside its size. Each function takes a view apart and asks the call below, whose contract it keeps.
-mod ref_frame;
 mod ref_plane;
 
-pub use ref_frame::RefFrame;
-pub use ref_frame::predict_inter;
 pub use ref_plane::RefPlane;
 pub use ref_plane::read_row;
 pub use ref_plane::row_answer;

@@ -6,7 +6,7 @@ use mir.Syntax.{w32}
 use mir.Val.{toZ, ofZ}
 use Rattle.candidates.specs.Offers.{none, offers, subNumber}
 use Rattle.candidates.specs.Scan.{columnStep, subPlaceAt, nearestOf}
-use Rattle.candidates.proofs.Fit.{back}
+use Rattle.records.proofs.Fit.{back}
 use Rattle.candidates.proofs.Folds.{offers-append}
 use Rattle.candidates.proofs.find.nearest.Statement.{statement}
 use Rattle.candidates.proofs.find.nearest.Tie as tie

@@ -2,7 +2,7 @@
 use borrow.Author.Needs.{needs}
 use Rattle.candidates.specs.Offers.{offers}
 use Rattle.candidates.specs.Scan.{SubsAt, subPlaceAt}
-use Rattle.candidates.proofs.Fit.{back}
+use Rattle.records.proofs.Fit.{back}
 use Rattle.candidates.proofs.find.sub_place.Statement.{statement}
 use Rattle.candidates.proofs.find.sub_place.Tie as tie
 

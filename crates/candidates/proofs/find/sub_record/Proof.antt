@@ -5,7 +5,7 @@ use borrow.Author.Needs.{needs}
 use mir.Syntax.{w32}
 use Rattle.base.specs.Number.{equal}
 use Rattle.base.proofs.Bits.{equal-yes, equal-no}
-use Rattle.candidates.specs.Tables.{frameAt}
+use Rattle.records.specs.Tables.{frameAt}
 use Rattle.candidates.specs.Offers.{offers, ofTarget}
 use Rattle.candidates.specs.Scan.{subRecord}
 use Rattle.candidates.proofs.find.sub_record.Statement.{statement}

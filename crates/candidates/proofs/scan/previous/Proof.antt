@@ -5,9 +5,10 @@ use Prim.Native.Nat.{_+_}
 use native.Mathlib.Omega.{arith}
 use borrow.Author.Needs.{needs}
 use Rattle.candidates.specs.Offers.{offers, run}
-use Rattle.candidates.specs.Scan.{Pairs, PrevRoom, listOf, prevOf}
+use Rattle.records.specs.Lent.{Pairs, PrevRoom}
+use Rattle.candidates.specs.Scan.{listOf, prevOf}
 use Rattle.candidates.proofs.Folds.{offers-append}
-use Rattle.candidates.proofs.Grid.{own-in}
+use Rattle.records.proofs.Grid.{own-in}
 use Rattle.candidates.proofs.scan.previous.Statement.{statement}
 use Rattle.candidates.proofs.scan.previous.Tie as tie
 

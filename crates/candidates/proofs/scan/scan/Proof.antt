@@ -9,15 +9,16 @@ use native.Mathlib.Omega.{arith}
 use borrow.Author.Needs.{needs}
 use lib.IntN.{ℤ}
 use Rattle.base.specs.declared.units.Mv.{Mv}
-use Rattle.candidates.specs.Tables.{spot}
+use Rattle.records.specs.Tables.{spot}
 use Rattle.candidates.specs.Offers.{offer, offers, run}
-use Rattle.candidates.specs.Scan.{Pairs, asked, offered, listOf, placeOf}
-use Rattle.candidates.specs.declared.geometry.MvRefGeometry.{MvRefGeometry}
-use Rattle.candidates.specs.declared.geometry.Spot.the-variants.{Out, Cell}
+use Rattle.records.specs.Lent.{Pairs}
+use Rattle.candidates.specs.Scan.{asked, offered, listOf, placeOf}
+use Rattle.records.specs.declared.geometry.MvRefGeometry.{MvRefGeometry}
+use Rattle.records.specs.declared.geometry.Spot.the-variants.{Out, Cell}
 use Rattle.candidates.specs.declared.held.Held.{Held}
 use Rattle.candidates.specs.declared.scan.Ask.{Ask}
 use Rattle.candidates.proofs.Folds.{next, left, done}
-use Rattle.candidates.proofs.Grid.{spot-in}
+use Rattle.records.proofs.Grid.{spot-in}
 use Rattle.candidates.proofs.scan.scan.Statement.{statement}
 use Rattle.candidates.proofs.scan.scan.Tie as tie
 

@@ -11,7 +11,7 @@ use Rattle.samples.specs.Call as Call
 use Rattle.samples.specs.Call.{Call, call, ref}
 use Rattle.samples.proofs.Accepted.{after-taken}
 use Rattle.prediction.specs.Chain.{paintFrom}
-use Rattle.prediction.proofs.Accepted.{paint-none, none-or, some-both, put-rest}
+use Rattle.prediction.proofs.Ready.{paint-none, none-or, some-both, put-rest}
 use borrow.Author.Needs.{needs}
 use Rattle.prediction.proofs.inter_pred.predict.Statement.{statement}
 use Rattle.prediction.proofs.inter_pred.predict.Tie as tie

@@ -10,7 +10,7 @@ use Rattle.samples.specs.declared.block_inter_pred.BlockShape.{BlockShape}
 use Rattle.samples.specs.declared.block_inter_pred.Stepping.{Stepping}
 use Rattle.samples.specs.declared.plane.PlaneGeom.{PlaneGeom}
 use Rattle.prediction.specs.Predict.{Whole, source, whole, numberOf}
-use Rattle.prediction.proofs.Accepted.{callWith, ready, painted-is, after-taken, after-refused, corner}
+use Rattle.prediction.proofs.Ready.{callWith, ready, painted-is, after-taken, after-refused, corner}
 use Rattle.prediction.proofs.inter_pred.predict_inter.Statement.{statement}
 use Rattle.prediction.proofs.inter_pred.predict_inter.Tie as tie
 

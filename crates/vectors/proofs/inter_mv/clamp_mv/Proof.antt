@@ -6,7 +6,7 @@ use Rattle.base.specs.Answer.{answer}
 use Rattle.base.proofs.Legal.{legal-row, legal-col}
 use Rattle.base.proofs.Bd.{Bd, bd, rd}
 use Rattle.vectors.specs.Clamp.{clampMv, clampRows}
-use Rattle.motion.proofs.Tested.{axis-small}
+use Rattle.clamping.proofs.Tested.{axis-small}
 use Rattle.vectors.proofs.Accepted.{ClampOk, clamp-ok}
 use borrow.Author.Needs.{needs}
 use Rattle.vectors.proofs.inter_mv.clamp_mv.Statement.{statement}
@@ -97,7 +97,7 @@ returns-2 c =
     let down = rw (rd w32 (rows e) tt, rd w32 (high w) tt, rd w32 (row e) tt) at (a .clamp-axis .ensures) in
     let across = rw (rd w32 (cols e) tt, rd w32 (wide w) tt, rd w32 (col e) tt) at (c .clamp-axis2 .ensures) in
     let heights = w .before .before .num-8x8-high .ensures .0 in
-    rw (zero e) (cc (down, across, heights, w .num-8x8-wide .ensures .0, q .shift .ensures .0, p .shift2 .ensures .0))
+    rw (zero e, down, across, heights, w .num-8x8-wide .ensures .0, q .shift .ensures .0, p .shift2 .ensures .0)
 
 pub clamp-mv-spec : {M : Type 1} → statement M
 clamp-mv-spec =

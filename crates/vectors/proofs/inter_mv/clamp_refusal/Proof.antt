@@ -1,14 +1,21 @@
 -- `clamp_refusal` meets its contract: the code asks the rows of the table in their order. Assumes nothing.
 use mathlib.Core.Path.{_≡_}
+use mathlib.Core.Bool.{Bool, _&&_}
 use native.Mathlib.Omega.{arith}
 use mir.Syntax.{w32}
 use mir.Val.{SFits}
 use mir.Facts.{toZ-ofZ}
+use Rattle.base.specs.Answer.{unless, BLOCK, GRID, VECTOR}
 use Rattle.vectors.specs.Clamp.{onAxis}
 use Rattle.vectors.specs.declared.inter_mv.BlockGrid.{BlockGrid}
 use borrow.Author.Needs.{needs}
 use Rattle.vectors.proofs.inter_mv.clamp_refusal.Statement.{statement}
 use Rattle.vectors.proofs.inter_mv.clamp_refusal.Tie as tie
+
+-- the rows of equal tests, as a law over variables: at the place itself their equations would have to be rewritten one inside the other
+rows-same : (block : Bool) {x x' y y' v v' : Bool} → x ≡ x' → y ≡ y' → v ≡ v'
+    → unless BLOCK block (unless GRID (x && y) (unless VECTOR v 0)) ≡ unless BLOCK block (unless GRID (x' && y') (unless VECTOR v' 0))
+rows-same block e f g = rw (e, f, g)
 
 -- the grid, seen from where each axis has been judged
 abbrev grid-down : tie.After-on-axis → BlockGrid
@@ -56,7 +63,7 @@ returns c =
     let across = vector .before in
     let p = across .before .before .before in
     rw (c .unless3 .ensures, c .before .unless2 .ensures, c .before .before .unless .ensures)
-    (cc (vector .is-legal-mv .ensures, across-is across, down-is p))
+    (rows-same _ (down-is p) (across-is across) (vector .is-legal-mv .ensures))
 
 pub clamp-refusal-spec : {M : Type 1} → statement M
 clamp-refusal-spec =

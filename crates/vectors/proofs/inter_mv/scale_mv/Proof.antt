@@ -6,7 +6,7 @@ use mir.Facts.{toZ-ofZ}
 use Rattle.base.specs.Answer.{answer}
 use Rattle.base.proofs.Bd.{Bd, rd}
 use Rattle.vectors.specs.Scale.{scaleMv, scaleRows}
-use Rattle.motion.proofs.Tested.{usable-bd}
+use Rattle.scaling.proofs.Tested.{usable-bd}
 use Rattle.vectors.proofs.Accepted.{ScaleOk, scale-ok}
 use borrow.Author.Needs.{needs}
 use Rattle.vectors.proofs.inter_mv.scale_mv.Statement.{statement}
@@ -86,7 +86,7 @@ returns-2 c =
     let start-y = rw (rd w32 (h .0) tt, rd w32 (h .1) tt, toZ-ofZ (start e .fits .y)) at (y .start-axis2 .ensures) in
     let step-x = rw (rd w32 (w .0) tt, rd w32 (w .1) tt) at (k .step-axis .ensures) in
     let step-y = rw (rd w32 (h .0) tt, rd w32 (h .1) tt) at (c .step-axis2 .ensures) in
-    rw (zero e) (cc (start-x, start-y, step-x, step-y))
+    rw (zero e, start-x, start-y, step-x, step-y)
 
 pub scale-mv-spec : {M : Type 1} → statement M
 scale-mv-spec =

@@ -1,13 +1,21 @@
 -- `scale_refusal` meets its contract: the code asks the rows of the table in their order. Assumes nothing.
 use mathlib.Core.Path.{_≡_}
+use mathlib.Core.Bool.{Bool, _&&_}
 use native.Mathlib.Omega.{arith}
 use mir.Syntax.{w32}
 use mir.Val.{SFits}
 use mir.Facts.{toZ-ofZ}
+use Rattle.base.specs.Answer.{unless, BLOCK, SIZE, START, VECTOR}
 use Rattle.vectors.specs.Scale.{usable, placed}
 use borrow.Author.Needs.{needs}
 use Rattle.vectors.proofs.inter_mv.scale_refusal.Statement.{statement}
 use Rattle.vectors.proofs.inter_mv.scale_refusal.Tie as tie
+
+-- the rows of equal tests, as a law over variables: at the place itself their equations would have to be rewritten one inside the other
+rows-same : (block : Bool) {s s' t t' x x' y y' v v' : Bool} → s ≡ s' → t ≡ t' → x ≡ x' → y ≡ y' → v ≡ v'
+    → unless BLOCK block (unless SIZE (s && t) (unless START (x && y) (unless VECTOR v 0)))
+    ≡ unless BLOCK block (unless SIZE (s' && t') (unless START (x' && y') (unless VECTOR v' 0)))
+rows-same block d e f g h = rw (d, e, f, g, h)
 
 -- the function's entry, seen from where the first dimension has been judged
 abbrev start : tie.After-usable → tie.Start
@@ -75,7 +83,7 @@ returns c =
     let down = x .before in
     let q = down .before .before .before in
     rw (c .unless4 .ensures, c .before .unless3 .ensures, p .unless2 .ensures, p .before .unless .ensures)
-    (cc (vector .is-legal16 .ensures, y-is y, x-is x, down-is down, across-is q))
+    (rows-same _ (across-is q) (down-is down) (x-is x) (y-is y) (vector .is-legal16 .ensures))
 
 pub scale-refusal-spec : {M : Type 1} → statement M
 scale-refusal-spec =

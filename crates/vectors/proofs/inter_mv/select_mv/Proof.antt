@@ -4,7 +4,7 @@ use borrow.Author.Tests.{ne-eqb}
 use Rattle.base.specs.Answer.{answer}
 use Rattle.vectors.specs.Select.{selectMv, selectRows}
 use Rattle.vectors.proofs.Accepted.{SelectOk, select-ok}
-use Rattle.motion.proofs.Parts.{legal-list, listOf-small}
+use Rattle.selection.proofs.Parts.{legal-list, listOf-small}
 use borrow.Author.Needs.{needs}
 use Rattle.vectors.proofs.inter_mv.select_mv.Statement.{statement}
 use Rattle.vectors.proofs.inter_mv.select_mv.Tie as tie
@@ -35,7 +35,7 @@ chosen-requires c κs =
 
 returns-2 : tie.Need-returns-2
 unfolding selectMv
-returns-2 c = rw (zero (c .before .before)) (cc (c .chosen .ensures, c .before .list-of .ensures .0))
+returns-2 c = rw (zero (c .before .before), c .chosen .ensures, c .before .list-of .ensures .0)
 
 pub select-mv-spec : {M : Type 1} → statement M
 select-mv-spec =

@@ -1,0 +1,2 @@
+pub mod MvRef
+pub mod Rows

@@ -1,0 +1,4 @@
+pub mod Fit
+pub mod Grid
+pub mod Joined
+pub mod Rooms

@@ -1,0 +1,2 @@
+pub mod BlockMvs
+pub mod Select
