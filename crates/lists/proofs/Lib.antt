@@ -1,3 +1,4 @@
 pub mod Kept
+pub mod Same
 pub mod SearchCalls
 pub mod Table

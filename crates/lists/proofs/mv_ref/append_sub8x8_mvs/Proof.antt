@@ -1,5 +1,5 @@
 -- `append_sub8x8_mvs` meets its contract: refused by the table, or the list made of the clamped pair. Assumes nothing.
-use mathlib.Core.Path.{_≡_, sym, _∙_}
+use mathlib.Core.Path.{_≡_, sym, ap, _∙_}
 use Prim.Native.Nat.{_≤_}
 use native.Mathlib.Omega.{arith}
 use borrow.Author.Tests.{leb-true, ne-eqb}
@@ -12,7 +12,10 @@ use Rattle.base.specs.Answer.{answer}
 use Rattle.base.specs.Number.{between}
 use Rattle.records.specs.Tables.{Tables, tables}
 use Rattle.candidates.specs.Scan.{found}
-use Rattle.lists.specs.MvRef.{appendRows, appendMvs}
+use Rattle.candidates.specs.declared.find.Found.{Found}
+use Rattle.candidates.specs.declared.held.Held.{Held}
+use Rattle.lists.specs.MvRef.{clampRef, appendRows, appendMvs}
+use Rattle.lists.proofs.Same.{pair-same, list-same}
 use Rattle.lists.proofs.Table.{AppendOk, append-ok}
 use Rattle.lists.proofs.mv_ref.append_sub8x8_mvs.Statement.{statement}
 use Rattle.lists.proofs.mv_ref.append_sub8x8_mvs.Tie as tie
@@ -84,7 +87,11 @@ returns-2 c =
     let e = pair .before in
     let s = start e in
     let is = rw (toZ-ofZ (s .fits .target), block-is e) at (pair .search .ensures) in
-    rw (zero e, list .sub-list .ensures, first .clamp-ref .ensures, second .clamp-ref2 .ensures, is)
+    let g = s .args .geometry in
+    let one = first .clamp-ref .ensures ∙ ap (λ (f : Found). clampRef (pos 128) g (f .first)) is in
+    let two = second .clamp-ref2 .ensures ∙ ap (λ (f : Found). clampRef (pos 128) g (f .second)) is in
+    let whole = list .sub-list .ensures ∙ list-same (s .args .block) (s .args .block-mvs) one two in
+    rw (zero e) (pair-same (ap (λ (h : Held). h .first) whole) (ap (λ (h : Held). h .second) whole))
 
 pub append-sub8x8-mvs-spec : {M : Type 1} → statement M
 append-sub8x8-mvs-spec =

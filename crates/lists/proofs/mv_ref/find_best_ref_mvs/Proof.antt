@@ -1,10 +1,13 @@
 -- `find_best_ref_mvs` meets its contract: refused by the table, or both vectors lowered and clamped. Assumes nothing.
-use mathlib.Core.Path.{_≡_, sym, _∙_}
+use mathlib.Core.Path.{_≡_, sym, ap, _∙_}
 use native.Mathlib.Omega.{arith}
 use borrow.Author.Tests.{ne-eqb}
 use borrow.Author.Needs.{needs}
+use lib.IntN.{pos}
 use Rattle.base.specs.Answer.{answer}
-use Rattle.lists.specs.MvRef.{bestRows, bestMvs}
+use Rattle.base.specs.declared.units.Mv.{Mv}
+use Rattle.lists.specs.MvRef.{clampRef, bestRows, bestMvs}
+use Rattle.lists.proofs.Same.{pair-same}
 use Rattle.lists.proofs.Table.{BestOk, best-ok}
 use Rattle.lists.proofs.mv_ref.find_best_ref_mvs.Statement.{statement}
 use Rattle.lists.proofs.mv_ref.find_best_ref_mvs.Tie as tie
@@ -45,7 +48,10 @@ unfolding bestMvs
 returns-2 c =
     let q = c .before .before in
     let p = q .before in
-    rw (zero (p .before), q .clamp-ref .ensures, c .clamp-ref2 .ensures, p .lowered .ensures, c .before .lowered2 .ensures)
+    let e = p .before in
+    let clamped : Mv → Mv = clampRef (pos 1248) (e .before .before .args .geometry) in
+    let first = q .clamp-ref .ensures ∙ ap clamped (p .lowered .ensures) in
+    rw (zero e) (pair-same first (c .clamp-ref2 .ensures ∙ ap clamped (c .before .lowered2 .ensures)))
 
 pub find-best-ref-mvs-spec : {M : Type 1} → statement M
 find-best-ref-mvs-spec =

@@ -12,8 +12,10 @@ use Rattle.base.specs.Number.{between}
 use Rattle.base.proofs.Tests.{and-left, and-right}
 use Rattle.records.specs.Tables.{Tables, tables}
 use Rattle.candidates.specs.Scan.{found}
+use Rattle.candidates.specs.declared.find.Found.{Found}
 use Rattle.lists.specs.Rows.{Sized}
-use Rattle.lists.specs.MvRef.{searchRows, findMvRefs}
+use Rattle.lists.specs.MvRef.{clampRef, searchRows, findMvRefs}
+use Rattle.lists.proofs.Same.{refs-same}
 use Rattle.lists.proofs.Table.{SearchOk, search-ok}
 use Rattle.lists.proofs.mv_ref.find_mv_refs.Statement.{statement}
 use Rattle.lists.proofs.mv_ref.find_mv_refs.Tie as tie
@@ -91,7 +93,12 @@ returns-2 c =
     let e = pair .before in
     let s = start e in
     let is = rw (toZ-ofZ (s .fits .target), toZ-ofZ (s .fits .block)) at (pair .search .ensures) in
-    rw (zero e, first .clamp-ref .ensures, c .clamp-ref2 .ensures, is)
+    let g = s .args .geometry in
+    rw (zero e)
+    (refs-same
+    (first .clamp-ref .ensures ∙ ap (λ (f : Found). clampRef (pos 128) g (f .first)) is)
+    (c .clamp-ref2 .ensures ∙ ap (λ (f : Found). clampRef (pos 128) g (f .second)) is)
+    (ap (λ (f : Found). f .context) is))
 
 pub find-mv-refs-spec : {M : Type 1} → statement M
 find-mv-refs-spec =

@@ -1,13 +1,20 @@
 -- `select_mv` meets its contract: refused by the table, or the chosen vector. Assumes nothing.
-use mathlib.Core.Path.{_≡_, sym, _∙_}
+use mathlib.Core.Path.{_≡_, sym, ap, _∙_}
+use Prim.Native.Nat.{ℕ}
 use borrow.Author.Tests.{ne-eqb}
 use Rattle.base.specs.Answer.{answer}
-use Rattle.vectors.specs.Select.{selectMv, selectRows}
+use Rattle.base.specs.declared.units.Mv.{Mv}
+use Rattle.vectors.specs.Select.{selectMv, selectRows, chosen}
+use Rattle.vectors.specs.declared.inter_mv.SelectedMv.{SelectedMv}
 use Rattle.vectors.proofs.Accepted.{SelectOk, select-ok}
 use Rattle.selection.proofs.Parts.{legal-list, listOf-small}
 use borrow.Author.Needs.{needs}
 use Rattle.vectors.proofs.inter_mv.select_mv.Statement.{statement}
 use Rattle.vectors.proofs.inter_mv.select_mv.Tie as tie
+
+-- equal vectors make equal results
+same : {v w : Mv} → v ≡ w → _≡_ {A = SelectedMv} (record { answer = 0; mv = v }) (record { answer = 0; mv = w })
+same e = rw e
 
 -- past the refusal the table answers 0
 zero : (c : tie.Else1) → let x = c .before .before .args in answer (selectRows (x .mvs) (x .plane) (x .size) (x .block) (x .sx) (x .sy)) ≡ 0
@@ -35,7 +42,11 @@ chosen-requires c κs =
 
 returns-2 : tie.Need-returns-2
 unfolding selectMv
-returns-2 c = rw (zero (c .before .before), c .chosen .ensures, c .before .list-of .ensures .0)
+returns-2 c =
+    let e = c .before .before in
+    let x = e .before .before .args in
+    let list = ap (λ (l : ℕ). chosen (x .mvs) l (x .plane) (x .size) (x .block) (x .sx) (x .sy)) (c .before .list-of .ensures .0) in
+    rw (zero e) (same (c .chosen .ensures ∙ list))
 
 pub select-mv-spec : {M : Type 1} → statement M
 select-mv-spec =
