@@ -37,7 +37,7 @@ pub extern "C" fn knobspindle_append_sub8x8_mvs(
     let bias = sign_bias.frame;
     let four = own.mvs;
     let of = list(four);
-    lists::append_sub8x8_mvs(
+    sub8x8::append_sub8x8_mvs(
         modes,
         frames,
         mvs,

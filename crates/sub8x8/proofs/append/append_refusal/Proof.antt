@@ -9,11 +9,11 @@ use mir.Facts.{toZ-ofZ}
 use Rattle.base.specs.Answer.{Row, row, answer, VECTOR}
 use Rattle.base.proofs.Tests.{and-left}
 use Rattle.records.specs.Tables.{Tables, tables}
 use Rattle.lists.specs.MvRef.{legalFour}
 use Rattle.lists.specs.Rows.{Sized, searchRows}
 use Rattle.lists.proofs.Table.{refused-more, accepted-more}
-use Rattle.lists.proofs.mv_ref.append_refusal.Statement.{statement}
-use Rattle.lists.proofs.mv_ref.append_refusal.Tie as tie
+use Rattle.sub8x8.proofs.append.append_refusal.Statement.{statement}
+use Rattle.sub8x8.proofs.append.append_refusal.Tie as tie
 
 abbrev lent : tie.Start → Tables
 lent c =

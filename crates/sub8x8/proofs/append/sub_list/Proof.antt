@@ -9,9 +9,9 @@ use lib.Dec.{leb}
 use Rattle.base.specs.declared.units.Eighth.{Eighth}
 use Rattle.base.specs.declared.units.Mv.{Mv}
 use Rattle.candidates.specs.Offers.{none, offers}
 use Rattle.lists.specs.MvRef.{subMv, before, subList}
-use Rattle.lists.proofs.mv_ref.sub_list.Statement.{statement}
-use Rattle.lists.proofs.mv_ref.sub_list.Tie as tie
+use Rattle.sub8x8.proofs.append.sub_list.Statement.{statement}
+use Rattle.sub8x8.proofs.append.sub_list.Tie as tie
 
 -- the search's pair is offered after the block's own vectors
 more : (block : ℕ) (m : List (List Eighth)) (pair : List Mv) → offers (offers none (before block m [])) pair ≡ offers none (before block m pair)

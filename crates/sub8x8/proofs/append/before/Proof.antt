@@ -3,9 +3,9 @@ use mathlib.Core.Path.{_∙_}
 use borrow.Author.Tests.{le-leb, lt-leb}
 use borrow.Author.Needs.{needs}
 use Rattle.candidates.specs.Offers.{offers}
 use Rattle.lists.specs.MvRef.{before}
-use Rattle.lists.proofs.mv_ref.before.Statement.{statement}
-use Rattle.lists.proofs.mv_ref.before.Tie as tie
+use Rattle.sub8x8.proofs.append.before.Statement.{statement}
+use Rattle.sub8x8.proofs.append.before.Tie as tie
 
 none-held-requires : tie.Need-none-held-requires
 none-held-requires c κs = search needs

@@ -1,8 +1,8 @@
 -- `is_legal_four` meets its contract: all four vectors are judged. Assumes nothing.
 use borrow.Author.Needs.{needs}
 use Rattle.lists.specs.MvRef.{legalFour}
-use Rattle.lists.proofs.mv_ref.is_legal_four.Statement.{statement}
-use Rattle.lists.proofs.mv_ref.is_legal_four.Tie as tie
+use Rattle.sub8x8.proofs.append.is_legal_four.Statement.{statement}
+use Rattle.sub8x8.proofs.append.is_legal_four.Tie as tie
 
 sub-mv-requires : tie.Need-sub-mv-requires
 sub-mv-requires c κs = search needs

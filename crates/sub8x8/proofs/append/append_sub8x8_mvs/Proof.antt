@@ -14,11 +14,11 @@ use Rattle.records.specs.Tables.{Tables, tables}
 use Rattle.candidates.specs.Scan.{found}
 use Rattle.candidates.specs.declared.find.Found.{Found}
 use Rattle.candidates.specs.declared.held.Held.{Held}
 use Rattle.lists.specs.MvRef.{clampRef, appendRows, appendMvs}
 use Rattle.lists.proofs.Same.{pair-same, list-same}
 use Rattle.lists.proofs.Table.{AppendOk, append-ok}
-use Rattle.lists.proofs.mv_ref.append_sub8x8_mvs.Statement.{statement}
-use Rattle.lists.proofs.mv_ref.append_sub8x8_mvs.Tie as tie
+use Rattle.sub8x8.proofs.append.append_sub8x8_mvs.Statement.{statement}
+use Rattle.sub8x8.proofs.append.append_sub8x8_mvs.Tie as tie
 
 abbrev lent : tie.Start → Tables
 lent c =

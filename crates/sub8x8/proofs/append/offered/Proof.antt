@@ -2,8 +2,8 @@
 use mathlib.Core.Path.{_∙_}
 use borrow.Author.Needs.{needs}
 use Rattle.candidates.specs.Offers.{offers}
-use Rattle.lists.proofs.mv_ref.offered.Statement.{statement}
-use Rattle.lists.proofs.mv_ref.offered.Tie as tie
+use Rattle.sub8x8.proofs.append.offered.Statement.{statement}
+use Rattle.sub8x8.proofs.append.offered.Tie as tie
 
 add-requires : tie.Need-add-requires
 add-requires c κs = search needs
