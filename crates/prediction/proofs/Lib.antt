@@ -1,5 +1,2 @@
-pub mod Cutting
-pub mod Instance
-pub mod Ready
 pub mod Outcomes
-pub mod Starred
+pub mod Ready

@@ -1,4 +1,2 @@
 pub mod Predict
 pub mod Chain
-pub mod Cut
-pub mod Starred

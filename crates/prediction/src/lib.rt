@@ -1,4 +1,4 @@
-// The whole prediction of a block, and the theorems that speak of whole calls: cutting, the worked examples of document 01.
+// The whole prediction of a block into its destination. It uses only what the calls below it promise.
 mod inter_pred;
 
 pub use inter_pred::predict_inter;

@@ -20,8 +20,8 @@ use Rattle.samples.specs.Call.{Call, call, ref, fromRef, value, kind, starts, o
 use Rattle.samples.specs.Reach.{SamePlane}
 use Rattle.samples.proofs.Accepted.{after-taken}
 use Rattle.samples.specs.declared.block_inter_pred.Stepping.{Stepping}
-use Rattle.prediction.specs.Cut.{Part, part, Within, has, count, Tiling, Made, done, next}
-use Rattle.prediction.proofs.Cutting.{cutting-once}
+use Rattle.promises.specs.Cut.{Part, part, Within, has, count, Tiling, Made, done, next}
+use Rattle.promises.proofs.Cutting.{cutting-once}
 
 -- a square plane of n by n samples whose first k rows are the upper band
 abbrev square : ℕ → ℕ → List ℕ → List ℕ → Lent

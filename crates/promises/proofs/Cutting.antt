@@ -21,7 +21,7 @@ use Rattle.samples.proofs.Accepted.{accepted, legal-says, after-taken}
 use Rattle.samples.proofs.Bands.{holds-row}
 use Rattle.samples.proofs.Reached.{rectangle}
 use Rattle.samples.specs.declared.block_inter_pred.BlockShape.{BlockShape}
-use Rattle.prediction.specs.Cut.{Part, Onward, Within, Each, has, count, Cover, Tiling, first, Made, done, next}
+use Rattle.promises.specs.Cut.{Part, Onward, Within, Each, has, count, Cover, Tiling, first, Made, done, next}
 
 -- ---- what an accepted call says of its output
 

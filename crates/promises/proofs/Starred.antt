@@ -22,8 +22,8 @@ use Rattle.kernels.specs.Taps.{regular, smooth, sharp, bilinear, filters, tap}
 use Rattle.samples.specs.Sample.{across, sample, blend}
 use Rattle.samples.specs.Plane.{plane}
 use Rattle.samples.specs.Call.{fromRef}
-use Rattle.prediction.specs.Starred.{halving, quartering, endsCrossed, heldHigh, modes, subThree, steps, oneRow, stepped, average, clipped, far}
-use Rattle.prediction.specs.Starred.{starredRows, Right}
+use Rattle.promises.specs.Starred.{halving, quartering, endsCrossed, heldHigh, modes, subThree, steps, oneRow, stepped, average, clipped, far}
+use Rattle.promises.specs.Starred.{starredRows, Right}
 
 halving-is : halving .gives ≡ halving .says
 unfolding halving halved
