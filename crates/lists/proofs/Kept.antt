@@ -1,6 +1,6 @@
 -- What the search, the sub-8x8 list and the best vectors give stays within -32767..32767: a legal component stays legal under the clamp. The
 -- context is 0..6. Assumes nothing.
-use mathlib.Core.Path.{_≡_, refl, ap}
+use mathlib.Core.Path.{_≡_, refl}
 use mathlib.Core.Bool.{Bool, true, false, _&&_, cond}
 use mathlib.Core.List.{List, [], _∷_}
 use Prim.Native.Nat.{ℕ, _≤_, _<_}
@@ -8,7 +8,6 @@ use native.Mathlib.Omega.{arith}
 use borrow.Author.Tests.{eqb-true}
 use lib.Dec.{leb, ltb, eqb}
 use lib.IntN.{ℤ, pos, negsuc, natAbs}
-use lib.ListN.{getD}
 use lib.Signed.{quotZ}
 use Rattle.base.specs.Answer.{answer}
 use Rattle.base.specs.Number.{between}
@@ -18,12 +17,11 @@ use Rattle.base.specs.declared.units.Eighth.{Eighth}
 use Rattle.base.specs.declared.units.Mv.{Mv}
 use Rattle.base.proofs.Bd.{abs-mul, abs-quot}
 use Rattle.base.proofs.Legal.{legal-bd, legal-row, legal-col}
-use Rattle.base.proofs.Tests.{and-four, between-pos, pos-toN}
+use Rattle.base.proofs.Tests.{and-four, pos-toN}
 use Rattle.records.specs.Tables.{Tables, gridOk}
 use Rattle.candidates.specs.Offers.{none, offers}
 use Rattle.candidates.specs.Search.{candidates, context}
 use Rattle.records.specs.declared.geometry.MvRefGeometry.{MvRefGeometry}
-use Rattle.base.proofs.Anywhere.{all, anywhere}
 use Rattle.candidates.proofs.Contexts.{context-range}
 use Rattle.records.proofs.Grid.{grid}
 use Rattle.candidates.proofs.Within.{Small, SmallPair, All, nil, cons, offers-small, none-small, candidates-small}

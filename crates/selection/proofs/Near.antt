@@ -7,7 +7,7 @@ use lib.IntN.{ℤ, pos, natAbs, _+ℤ_, _-ℤ_}
 use lib.Signed.{ltZ, quotZ}
 use Rattle.base.specs.Vector.{mv, legal, legalMv}
 use Rattle.base.specs.declared.units.Mv.{Mv}
-use Rattle.base.proofs.Bd.{Bd, bd, lit, _⊕_, _⊖_, abs-quot}
+use Rattle.base.proofs.Bd.{bd, lit, _⊕_, _⊖_, abs-quot}
 use Rattle.base.proofs.Legal.{row-bd, col-bd}
 use Rattle.base.proofs.Tests.{abs-between}
 use Rattle.selection.specs.BlockMvs.{BlockMvs, legalList}
