@@ -721,7 +721,7 @@ def above(path, view, lifetimes, params, new, callee, rest, result, specs, said)
 USIZE, U32, I32 = Num("usize", False, "w64"), Num("u32", False, "w32"), Num("i32", True, "w32")
 BAND = Slice()
 SHAPE, STEPPING = Struct("samples", "block_inter_pred", "BlockShape"), Struct("samples", "block_inter_pred", "Stepping")
-PLANE = View("ref_plane", "RefPlane", Struct("samples", "plane", "PlaneGeom"),
+PLANE = View("ref_plane", "RefPlane", Struct("planes", "plane", "PlaneGeom"),
              [("upper", BAND), ("lower", BAND), ("width", I32), ("height", I32), ("stride", USIZE), ("«upper_rows»", USIZE)])
 FRAME = View("ref_frame", "RefFrame", Struct("judgement", "judging", "RefGeom"),
              [("upper", BAND), ("lower", BAND), ("«frame_width»", I32), ("«frame_height»", I32), ("stride", USIZE), ("«upper_rows»", USIZE)])
@@ -738,7 +738,7 @@ def lent(v):
 
 def main():
     global CRATE
-    read = "use Rattle.samples.specs.Plane.{%s}"
+    read = "use Rattle.planes.specs.Plane.{%s}"
     block_ = [read % "lent", "use Rattle.samples.specs.Call.{call, ref, Outcome}"]
     left = "(now out) (now room) r (LAST out) (LAST room)"
     predict = Callee("predict", "samples", "block_inter_predict", "samples·block-inter-predict")
@@ -748,7 +748,7 @@ def main():
 
     made("ref_plane.RefPlane.new", PLANE)
     apart("ref_plane.RefPlane.row", PLANE, 2, [self, y, number],
-          Callee("read", "samples", "row_read", "samples·row-read"), ["self"], bands("self") + [("size", "self"), "y", "number"],
+          Callee("read", "planes", "row_read", "planes·row-read"), ["self"], bands("self") + [("size", "self"), "y", "number"],
           BAND, [read % "lent, ReadOutcome"], f"ReadOutcome (lent {lent('self')}) y (LAST number) (now r)")
     apart("ref_plane.RefPlane.predict", PLANE, 3, [self, P("shape", SHAPE), P("start", STEPPING), room, out, stride],
           predict, ["self"], ["shape"] + ([("size", "self"), "start"] + bands("self")) * 2 + ["room", "out", "stride"],

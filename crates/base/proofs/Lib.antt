@@ -2,6 +2,7 @@ pub mod Answered
 pub mod Anywhere
 pub mod Bd
 pub mod Bits
+pub mod Casts
 pub mod Legal
 pub mod Lift
 pub mod Painted

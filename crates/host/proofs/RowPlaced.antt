@@ -6,7 +6,7 @@ use Prim.Native.Nat.{ℕ, _-_, _*_}
 use lib.Dec.{eqb, ltb}
 use lib.ListN.{take, drop}
 use Rattle.base.specs.Answer.{answer}
-use Rattle.samples.specs.Plane.{Lent, widthOf, readRows, rowOf}
+use Rattle.planes.specs.Plane.{Lent, widthOf, readRows, rowOf}
 use Rattle.host.specs.InC.{rowPlace, placed}
 
 -- the same test picks the band, its first sample and the part

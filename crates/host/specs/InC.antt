@@ -8,7 +8,7 @@ use Rattle.base.specs.Answer.{answer}
 use Rattle.base.specs.Vector.{zeroMv}
 use Rattle.base.specs.declared.units.Eighth.{Eighth}
 use Rattle.base.specs.declared.units.Mv.{Mv}
-use Rattle.samples.specs.Plane.{Lent, readRows, widthOf}
+use Rattle.planes.specs.Plane.{Lent, readRows, widthOf}
 use Rattle.host.specs.declared.samples_c.RowPlace.{RowPlace}
 use Rattle.host.specs.declared.vectors_c.BlockMvs.{BlockMvs}
 

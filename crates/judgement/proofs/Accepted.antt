@@ -24,7 +24,7 @@ use Rattle.selection.proofs.Near.{chosen-legal}
 use Rattle.scaling.proofs.Scaled.{start-near, step-in}
 use Rattle.vectors.proofs.Near.{clamped-legal}
 use Rattle.vectors.proofs.Accepted.{scale-ok}
-use Rattle.samples.specs.Plane.{fits}
+use Rattle.planes.specs.Plane.{fits}
 use Rattle.samples.specs.Call.{also, kind, starts}
 use Rattle.samples.specs.declared.block_inter_pred.Stepping.{Stepping}
 use Rattle.judgement.specs.Whole.{Source, Whole, steppingOf, scaleGeom, planeOf, shapeOf, allowedRef, destFits, blockOk, numberOf}

@@ -19,7 +19,7 @@ use Rattle.vectors.specs.Select.{selectMv}
 use Rattle.vectors.specs.Clamp.{clampMv, onAxis}
 use Rattle.vectors.specs.Scale.{scaleMv, usable, placed}
 use Rattle.scaling.proofs.Tested.{usable-sizes}
-use Rattle.samples.specs.Plane.{lent, sized, fits}
+use Rattle.planes.specs.Plane.{lent, sized, fits}
 use Rattle.samples.specs.Call as Call
 use Rattle.samples.specs.Call.{also}
 use Rattle.vectors.specs.declared.inter_mv.BlockGrid.{BlockGrid}

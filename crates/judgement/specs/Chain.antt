@@ -14,7 +14,7 @@ use Rattle.vectors.specs.Select.{selectMv}
 use Rattle.vectors.specs.Clamp.{clampMv}
 use Rattle.vectors.specs.Scale.{scaleMv}
 use Rattle.vectors.specs.declared.inter_mv.BlockGrid.{BlockGrid}
-use Rattle.samples.specs.Plane.{Lent, readRows}
+use Rattle.planes.specs.Plane.{Lent, readRows}
 use Rattle.judgement.specs.Whole.{Whole, scaleGeom, steppingOf, numberOf}
 use Rattle.judgement.specs.declared.judging.InterPredArgs.{InterPredArgs}
 use Rattle.judgement.specs.declared.judging.FrameGeom.{FrameGeom}

@@ -1,7 +1,7 @@
 // What a whole prediction is told before it writes, steps 2 to 4 of the standard's 8.5.2: its number, and where the block starts in each reference.
 ghost use mathlib.Core.Path.{_≡_};
 ghost use lib.IntN.{pos};
-ghost use Rattle.samples.specs.Plane.{lent};
+ghost use Rattle.planes.specs.Plane.{lent};
 ghost use Rattle.samples.specs.Call as Call;
 ghost use Rattle.judgement.specs.Whole as Whole;
 ghost use Rattle.judgement.specs.Whole.{source, whole};
@@ -19,9 +19,9 @@ use base::VECTOR;
 use base::natural;
 use base::unless;
 use base::within;
-use samples::PlaneGeom;
+use planes::PlaneGeom;
+use planes::row_read;
 use samples::Stepping;
-use samples::row_read;
 use vectors::BlockGrid;
 use vectors::ScaleGeom;
 use vectors::clamp_mv;

@@ -1,9 +1,1 @@
-pub mod Casts
-pub mod Copies
-pub mod Filtered
 pub mod Lines
-pub mod Loops
-pub mod Low
-pub mod Runs
-pub mod TapRules
-pub mod Tops

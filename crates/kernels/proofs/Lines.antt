@@ -9,9 +9,9 @@ use lib.IntN.{ℤ}
 use lib.ListN.{length, getD}
 use Rattle.base.specs.Paint.{fill}
 use Rattle.base.proofs.Painted.{fill-same, fill-at}
-use Rattle.kernels.specs.Taps.{tap}
-use Rattle.kernels.specs.Kernel.{apart, ran, ranRows, stepped, clipped, seat, level, levels, heldFrom, listed, meanOf}
-use Rattle.kernels.proofs.Filtered.{filtered-same, filtered-whole}
+use Rattle.taps.specs.Taps.{tap}
+use Rattle.taps.specs.Kernel.{apart, ran, ranRows, stepped, clipped, seat, level, levels, heldFrom, listed, meanOf}
+use Rattle.taps.proofs.Filtered.{filtered-same, filtered-whole}
 
 -- one phase, in steps of 16
 pub ran-stepped : (max : ℕ) (taps : ℕ → ℕ → ℤ) (l : List ℕ) (d phase c : ℕ) → phase < 16 → ran max (taps phase) l 1 d c ≡ stepped max taps l d phase 16 c

@@ -3,77 +3,16 @@ ghost use mathlib.Core.Path.{_≡_};
 ghost use Prim.Native.Nat.{_+_, _-_, _*_, _/_, _%_, _≤_, _<_, min};
 ghost use lib.ListN.{length};
 ghost use Rattle.base.specs.Paint.{fill};
-ghost use Rattle.kernels.specs.Taps.{filters, tap};
-ghost use Rattle.kernels.specs.Filter.{filtered};
-ghost use Rattle.kernels.specs.Kernel.{IsTaps, products, raisedOne, apart, ran, stepped, clipped, alike, onward, heldFrom, levels};
-use crate::lanes::rows_across;
-use crate::taps::Taps;
-use crate::taps::taps_at;
-
-fn wide(x: u16) -> u32
-    ensures { λ r. ⌜ (r ≡ x) × (r < 65536) ⌝ }
-{
-    x as u32
-}
-
-fn mul(t: u16, x: u16) -> u32
-    requires { ⌜ t ≤ 152 ⌝ }
-    ensures { λ r. ⌜ (r ≡ t * x) × (r ≤ 9961320) ⌝ }
-{
-    (t as u32) * (x as u32)
-}
-
-fn dot(p: Taps, a: u16, b: u16, c: u16, d: u16, e: u16, f: u16, g: u16, h: u16) -> u32
-    requires { ⌜ IsTaps p ⌝ }
-    ensures { λ r. ⌜ (r ≡ products p a b c d e f g h) × (r ≤ 79690560) ⌝ }
-{
-    mul(p.t0, a)
-        + mul(p.t1, b)
-        + mul(p.t2, c)
-        + mul(p.t3, d)
-        + mul(p.t4, e)
-        + mul(p.t5, f)
-        + mul(p.t6, g)
-        + mul(p.t7, h)
-}
-
-// What the 24 on each tap added to the sum.
-fn surplus(a: u16, b: u16, c: u16, d: u16, e: u16, f: u16, g: u16, h: u16) -> u32
-    ensures { λ r. ⌜ r ≡ 24 * (a + b + c + d + e + f + g + h) ⌝ }
-{
-    24 * (wide(a) + wide(b) + wide(c) + wide(d) + wide(e) + wide(f) + wide(g) + wide(h))
-}
-
-fn less(s: u32, n: u32) -> u32
-    ensures { λ r. ⌜ r ≡ s - n ⌝ }
-{
-    if n < s { s - n } else { 0 }
-}
-
-fn least(v: u32, max: u16) -> u16
-    ensures { λ r. ⌜ r ≡ min v max ⌝ }
-{
-    if v < wide(max) { v as u16 } else { max }
-}
-
-// Add 64, divide by 128 rounding down, hold into 0..max.
-fn rounded(s: u32, n: u32, max: u16) -> u16
-    requires { ⌜ s ≤ 79690560 ⌝ }
-    ensures { λ r. ⌜ r ≡ min ((s + 64 - n) / 128) max ⌝ }
-{
-    least(less(s + 64, n) / 128, max)
-}
-
-fn one(p: Taps, a: u16, b: u16, c: u16, d: u16, e: u16, f: u16, g: u16, h: u16, max: u16) -> u16
-    requires { ⌜ IsTaps p ⌝ }
-    ensures { λ r. ⌜ r ≡ raisedOne max p a b c d e f g h ⌝ }
-{
-    rounded(
-        dot(p, a, b, c, d, e, f, g, h),
-        surplus(a, b, c, d, e, f, g, h),
-        max,
-    )
-}
+ghost use Rattle.taps.specs.Taps.{filters, tap};
+ghost use Rattle.taps.specs.Filter.{filtered};
+ghost use Rattle.taps.specs.Kernel.{IsTaps, apart, stepped, alike, onward, heldFrom, Gathered, levels};
+use lanes::rows_across;
+use sums::one;
+use taps::Taps;
+use taps::fewer;
+use taps::row_clipped;
+use taps::run_copied;
+use taps::taps_at;
 
 // Eight samples from place s on, n apart: 1 in a row, 64 in a column of the room.
 fn window(l: &[u16], n: usize, s: usize, p: Taps, max: u16) -> u16
@@ -93,50 +32,6 @@ fn window(l: &[u16], n: usize, s: usize, p: Taps, max: u16) -> u16
         l[s + n * 7],
         max,
     )
-}
-
-// A row of results of one phase.
-pub fn row_filtered(
-    l: &[u16],
-    n: usize,
-    b: usize,
-    p: Taps,
-    w: usize,
-    max: u16,
-    out: &mut [u16],
-    at: usize,
-)
-    requires { ⌜ IsTaps p ⌝ }
-    requires { ⌜ (b + w + n * 7 ≤ length (now l)) × (n ≤ 64) × (at + w ≤ length (now out)) ⌝ }
-    ensures { λ _. ⌜ now (out .exit) ≡ fill (now (out .entry)) at w (ran max (tap (p .filter) (p .phase)) (now (l .entry)) n b) ⌝ }
-{
-    let mut c = 0;
-    while c < w {
-        let o = at + c;
-        let s = b + c;
-        out[o] = window(l, n, s, p, max);
-        c += 1;
-    }
-}
-
-pub(crate) fn lesser(a: u16, b: u16) -> u16
-    ensures { λ r. ⌜ r ≡ min a b ⌝ }
-{
-    if a < b { a } else { b }
-}
-
-// A row of samples, each held to the depth: what phase 0 gives.
-pub fn row_clipped(l: &[u16], b: usize, w: usize, max: u16, out: &mut [u16], at: usize)
-    requires { ⌜ (b + w ≤ length (now l)) × (at + w ≤ length (now out)) ⌝ }
-    ensures { λ _. ⌜ now (out .exit) ≡ fill (now (out .entry)) at w (clipped max (now (l .entry)) b) ⌝ }
-{
-    let mut c = 0;
-    while c < w {
-        let o = at + c;
-        let s = b + c;
-        out[o] = lesser(l[s], max);
-        c += 1;
-    }
 }
 
 // A row of results whose phase changes from column to column.
@@ -178,12 +73,6 @@ pub fn held(b: usize, last: usize) -> usize
     if d < last { d } else { last }
 }
 
-pub(crate) fn fewer(a: usize, b: usize) -> usize
-    ensures { λ r. ⌜ r ≡ min a b ⌝ }
-{
-    if a < b { a } else { b }
-}
-
 // How many of m lifted columns from b on stand left of the plane.
 fn left_of(b: usize, m: usize) -> usize
     ensures { λ r. ⌜ r ≡ min (200003 - b) m ⌝ }
@@ -194,42 +83,96 @@ fn left_of(b: usize, m: usize) -> usize
     fewer(200003 - b, m)
 }
 
-fn run_same(v: u16, n: usize, line: &mut [u16], at: usize)
-    requires { ⌜ at + n ≤ length (now line) ⌝ }
-    ensures { λ _. ⌜ now (line .exit) ≡ fill (now (line .entry)) at n (alike v) ⌝ }
+fn eight_same(v: u16, line: &mut [u16], at: usize)
+    requires { ⌜ at + 8 ≤ length (now line) ⌝ }
+    ensures { λ _. ⌜ now (line .exit) ≡ fill (now (line .entry)) at 8 (alike v) ⌝ }
+{
+    line[at] = v;
+    line[at + 1] = v;
+    line[at + 2] = v;
+    line[at + 3] = v;
+    line[at + 4] = v;
+    line[at + 5] = v;
+    line[at + 6] = v;
+    line[at + 7] = v;
+}
+
+// Whole eights, up to seven numbers past the run's end: what follows is written later.
+fn run_eights(v: u16, n: usize, line: &mut [u16], at: usize)
+    requires { ⌜ at + n + 7 ≤ length (now line) ⌝ }
+    ensures { λ _. ⌜ Gathered (now (line .entry)) (now (line .exit)) at n (alike v) ⌝ }
 {
     let mut c = 0;
     while c < n {
-        let o = at + c;
-        line[o] = v;
-        c += 1;
+        eight_same(v, line, at + c);
+        c += 8;
     }
 }
 
-pub(crate) fn run_copied(row: &[u16], s: usize, n: usize, line: &mut [u16], at: usize)
-    requires { ⌜ (s + n ≤ length (now row)) × (at + n ≤ length (now line)) ⌝ }
-    ensures { λ _. ⌜ now (line .exit) ≡ fill (now (line .entry)) at n (onward (now (row .entry)) s) ⌝ }
+// All eight are read before one is written, so that the machine moves them together.
+fn eight_moved(row: &[u16], s: usize, line: &mut [u16], at: usize)
+    requires { ⌜ (s + 8 ≤ length (now row)) × (at + 8 ≤ length (now line)) ⌝ }
+    ensures { λ _. ⌜ now (line .exit) ≡ fill (now (line .entry)) at 8 (onward (now (row .entry)) s) ⌝ }
+{
+    let x0 = row[s];
+    let x1 = row[s + 1];
+    let x2 = row[s + 2];
+    let x3 = row[s + 3];
+    let x4 = row[s + 4];
+    let x5 = row[s + 5];
+    let x6 = row[s + 6];
+    let x7 = row[s + 7];
+    line[at] = x0;
+    line[at + 1] = x1;
+    line[at + 2] = x2;
+    line[at + 3] = x3;
+    line[at + 4] = x4;
+    line[at + 5] = x5;
+    line[at + 6] = x6;
+    line[at + 7] = x7;
+}
+
+// The last eight ends where the run ends, over some of the eight before it.
+fn run_overlapped(row: &[u16], s: usize, n: usize, line: &mut [u16], at: usize)
+    requires { ⌜ (8 ≤ n) × (s + n ≤ length (now row)) × (at + n ≤ length (now line)) ⌝ }
+    ensures { λ _. ⌜ Gathered (now (line .entry)) (now (line .exit)) at n (onward (now (row .entry)) s) ⌝ }
 {
     let mut c = 0;
     while c < n {
-        let o = at + c;
-        let i = s + c;
-        line[o] = row[i];
-        c += 1;
+        let o = fewer(c, n - 8);
+        eight_moved(row, s + o, line, at + o);
+        c += 8;
     }
+}
+
+// Fewer than eight are moved as eight where the row has as many.
+fn run_moved(row: &[u16], s: usize, n: usize, line: &mut [u16], at: usize)
+    requires { ⌜ (s + n ≤ length (now row)) × (at + n + 8 ≤ length (now line)) ⌝ }
+    ensures { λ _. ⌜ Gathered (now (line .entry)) (now (line .exit)) at n (onward (now (row .entry)) s) ⌝ }
+{
+    if 8 <= n {
+        run_overlapped(row, s, n, line, at);
+        return;
+    }
+    if 8 <= row.len() - s {
+        eight_moved(row, s, line, at);
+        return;
+    }
+    run_copied(row, s, n, line, at)
 }
 
 // The samples of m lifted columns from b on, each column held into the plane: its first sample again and again, the row itself, its last.
-fn gather(row: &[u16], last: usize, b: usize, m: usize, line: &mut [u16])
-    requires { ⌜ (last < length (now row)) × (b ≤ 400000) × (m ≤ length (now line)) × (m ≤ 136) ⌝ }
-    ensures { λ _. ⌜ now (line .exit) ≡ fill (now (line .entry)) 0 m (heldFrom (now (row .entry)) last b) ⌝ }
+// Up to seven places past them are scratch.
+pub fn gather(row: &[u16], last: usize, b: usize, m: usize, line: &mut [u16], at: usize)
+    requires { ⌜ (last < length (now row)) × (b ≤ 400003) × (0 < m) × (m ≤ 136) × (at + m + 8 ≤ length (now line)) ⌝ }
+    ensures { λ _. ⌜ Gathered (now (line .entry)) (now (line .exit)) at m (heldFrom (now (row .entry)) last b) ⌝ }
 {
     let l = left_of(b, m);
     let s = held(b, last);
     let k = fewer(last + 1 - s, m - l);
-    run_same(row[0], l, line, 0);
-    run_copied(row, s, k, line, l);
-    run_same(row[last], m - l - k, line, l + k)
+    run_eights(row[0], l, line, at);
+    run_moved(row, s, k, line, at + l);
+    run_eights(row[last], m - l - k, line, at + l + k)
 }
 
 // A row of results over samples that need no holding.
@@ -248,6 +191,7 @@ fn row_line(
     requires { ⌜ IsTaps p ⌝ }
     requires { ⌜ (p .filter < 4) × (p .phase < 16) × (step ≤ 32) × (0 < w) × (w ≤ 64) ⌝ }
     requires { ⌜ (d + (p .phase + step * (w - 1)) / 16 + 8 ≤ length (now l)) × (at + w ≤ length (now out)) ⌝ }
+    requires { ⌜ max ≤ 4095 ⌝ }
     ensures { λ _. ⌜ now (out .exit) ≡ fill (now (out .entry)) at w (stepped max (tap (p .filter)) (now (l .entry)) d (p .phase) step) ⌝ }
 {
     if step != 16 {
@@ -278,11 +222,12 @@ fn row_gathered(
     requires { ⌜ IsTaps p ⌝ }
     requires { ⌜ (p .filter < 4) × (p .phase ≡ start % 16) × (last < length (now row)) × (start ≤ 6400000) × (step ≤ 32) ⌝ }
     requires { ⌜ (0 < w) × (w ≤ 64) × (at + w ≤ length (now out)) ⌝ }
+    requires { ⌜ max ≤ 4095 ⌝ }
     ensures { λ _. ⌜ now (out .exit) ≡ fill (now (out .entry)) at w (levels max (tap (p .filter)) (now (row .entry)) last start step) ⌝ }
 {
     let m = (start % 16 + step * (w - 1)) / 16 + 8;
-    let mut line = [0u16; 136];
-    gather(row, last, start / 16, m, &mut line);
+    let mut line = [0u16; 144];
+    gather(row, last, start / 16, m, &mut line, 0);
     row_line(table, p, &line, 0, step, w, max, out, at)
 }
 
@@ -303,6 +248,7 @@ pub fn row_across(
     requires { ⌜ IsTaps p ⌝ }
     requires { ⌜ (p .filter < 4) × (p .phase ≡ start % 16) × (last < length (now row)) × (start ≤ 6400000) × (step ≤ 32) ⌝ }
     requires { ⌜ (0 < w) × (w ≤ 64) × (at + w ≤ length (now out)) ⌝ }
+    requires { ⌜ max ≤ 4095 ⌝ }
     ensures { λ _. ⌜ now (out .exit) ≡ fill (now (out .entry)) at w (levels max (tap (p .filter)) (now (row .entry)) last start step) ⌝ }
 {
     let b = start / 16;

@@ -19,7 +19,7 @@ use Rattle.base.proofs.Painted.{paint-same}
 use Rattle.base.proofs.Tests.{clash, and-both, and-three, within-both}
 use Rattle.vectors.specs.Scale.{placed}
 use Rattle.scaling.proofs.Tested.{placed-small}
-use Rattle.samples.specs.Plane.{sized, holds}
+use Rattle.planes.specs.Plane.{sized, holds}
 use Rattle.samples.specs.Call as Call
 use Rattle.samples.specs.Call.{Call, call, ref, also, starts, outFits, value}
 use Rattle.samples.specs.declared.block_inter_pred.Stepping.{Stepping}

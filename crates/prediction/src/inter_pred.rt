@@ -3,7 +3,7 @@ ghost use mathlib.Core.Path.{_≡_};
 ghost use Prim.Native.Nat.{_≤_};
 ghost use lib.ListN.{length};
 ghost use Rattle.base.specs.Position.{toN};
-ghost use Rattle.samples.specs.Plane.{lent};
+ghost use Rattle.planes.specs.Plane.{lent};
 ghost use Rattle.samples.specs.Call.{call, ref};
 ghost use Rattle.prediction.specs.Predict as Predict;
 ghost use Rattle.prediction.specs.Predict.{source, whole, Outcome};
@@ -16,10 +16,10 @@ use judgement::InterPredArgs;
 use judgement::RefGeom;
 use judgement::judge;
 use judgement::plane_geom;
+use planes::PlaneGeom;
 use samples::BlockShape;
-use samples::PlaneGeom;
 use samples::Stepping;
-use samples::block_inter_predict;
+use samples::predict_accepted;
 use vectors::BlockGrid;
 
 // Of n samples from place at on, those before the end.
@@ -83,7 +83,7 @@ fn predict<'a>(
     if (shape.w == 0) | (shape.h == 0) {
         return 0;
     }
-    block_inter_predict(
+    predict_accepted(
         shape,
         plane,
         from,
@@ -96,7 +96,8 @@ fn predict<'a>(
         room,
         &mut out[i..],
         stride,
-    )
+    );
+    0
 }
 
 // The whole prediction of a block into the destination; the answer's number is given back. List 1 is looked at only when averaging.

@@ -12,10 +12,10 @@ use Rattle.base.specs.Number.{between, within}
 use Rattle.base.specs.Paint.{fill, paint}
 use Rattle.base.specs.Position.{hold, along, place}
 use Rattle.base.specs.Vector.{sixteenth}
-use Rattle.kernels.specs.Filter.{filtered}
-use Rattle.kernels.specs.Taps.{bilinear, filters, tap}
+use Rattle.taps.specs.Filter.{filtered}
+use Rattle.taps.specs.Taps.{bilinear, filters, tap}
 use Rattle.samples.specs.Sample.{across, sample, blend}
-use Rattle.samples.specs.Plane.{Lent, lent, plane, holds, sized, fits}
+use Rattle.planes.specs.Plane.{Lent, lent, plane, holds, sized, fits}
 use Rattle.samples.specs.Call.{Call, call, ref, fromRef, value, kind, starts, outFits, numberOf, Outcome}
 use Rattle.samples.specs.Reach.{SamePlane}
 use Rattle.samples.proofs.Accepted.{after-taken}

@@ -18,7 +18,7 @@ use Rattle.lists.specs.MvRef.{clampPart, subList}
 use Rattle.vectors.specs.Scale.{scaleMv}
 use Rattle.vectors.specs.declared.inter_mv.ScaledMv.{ScaledMv}
 use Rattle.samples.specs.Sample.{blend}
-use Rattle.samples.specs.Plane.{lent}
+use Rattle.planes.specs.Plane.{lent}
 use Rattle.samples.specs.Call.{ref, fromRef}
 
 -- "Halving: -3, -2, -1, 0, 1, 2, 3 give -2, -1, -1, 0, 1, 1, 2."

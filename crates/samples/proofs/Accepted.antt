@@ -1,8 +1,9 @@
 -- What an accepted call says of its arguments, and the laws by which its number is computed. Assumes nothing.
-use mathlib.Core.Path.{_≡_, refl, sym}
+use mathlib.Core.Path.{_≡_, refl, sym, _∙_}
 use mathlib.Core.Bool.{Bool, true, false, _&&_, _||_}
 use mathlib.Core.List.{List}
-use Prim.Native.Nat.{ℕ, _+_, _/_, _≤_}
+use Prim.Native.Nat.{ℕ, _-_, _≤_}
+use native.Mathlib.Omega.{arith}
 use borrow.Author.Tests.{leb-true, ne-eqb}
 use lib.Dec.{leb}
 use lib.IntN.{ℤ, pos, negsuc, natAbs}
@@ -13,12 +14,16 @@ use Rattle.base.specs.Number.{within}
 use Rattle.base.specs.Paint.{paint}
 use Rattle.base.specs.Position.{toN}
 use Rattle.base.proofs.Answered.{unless-zero}
+use Rattle.base.proofs.Painted.{paint-same}
 use Rattle.base.proofs.Tests.{clash, and-both, within-both, between-abs}
-use Rattle.samples.specs.Plane.{widthOf, heightOf, holds, sized, fits}
+use Rattle.planes.specs.Plane.{widthOf, heightOf, holds, sized, fits}
 use Rattle.samples.specs.Call.{Ref, Call, also, kind, starts, fromRef, value, numberOf, outFits, after}
-use Rattle.samples.specs.Lifted.{numberOne, lowest, Legal}
+use Rattle.passes.specs.Lifted.{meanWith}
+use Rattle.samples.specs.Single.{numberOne, lowest, Legal}
 use Rattle.samples.specs.Sample.{blend}
 use Rattle.samples.specs.declared.block_inter_pred.BlockShape.{BlockShape}
+use Rattle.planes.proofs.Bands.{holds-row}
+use Rattle.passes.proofs.Blocks.{mean-painted}
 
 -- the table of one reference, left at each of its rows
 module _ (t1 t4 t5 t6 f o : Bool) where
@@ -103,10 +108,10 @@ all-both true true true false s s' f f' o = five s f o .1
 all-both true true true true s s' f f' o = rest-both s s' f f' o
 
 -- with it, the lower of the two references' numbers
-pub number-both : (a : Call) (n m : ℕ) → a .shape .average ≡ true
-    → lowest (numberOne (a .shape) (a .one) (a .stride) n m) (numberOne (a .shape) (a .two) (a .stride) n m) ≡ numberOf a n m
+pub number-both : (a : Call) (n m x y : ℕ) → a .shape .average ≡ true → x ≡ numberOne (a .shape) (a .one) (a .stride) n m
+    → y ≡ numberOne (a .shape) (a .two) (a .stride) n m → lowest x y ≡ numberOf a n m
 unfolding numberOne numberOf outFits rest
-number-both a n m e = rw e (all-both _ _ _ _ _ _ (fits (a .one .lent)) (fits (a .two .lent)) (outFits a n m))
+number-both a n m x y e p q = rw (p, q, e) (all-both _ _ _ _ _ _ (fits (a .one .lent)) (fits (a .two .lent)) (outFits a n m))
 
 -- a test that fails where its first part passes fails in its second
 pub second-fails : (a b : Bool) → a ≡ true → (a && b) ≡ false → b ≡ false
@@ -208,12 +213,20 @@ pub after-refused : (a : Call) (out : List ℕ) (m : ℕ) → (numberOf a (lengt
 unfolding after
 after-refused a out m d = simp (ne-eqb _ 0 d)
 
--- a sample of a call, averaged and not
-pub value-two : (a : Call) (r c : ℕ) → a .shape .average ≡ true
-    → (fromRef (a .shape) (a .one) r c + fromRef (a .shape) (a .two) r c + 1) / 2 ≡ value a r c
+-- list 0 alone, where it is not averaged
+pub painted-one : (a : Call) (out : List ℕ) → a .shape .average ≡ false
+    → paint out (a .stride) (a .shape .w) (a .shape .h) (fromRef (a .shape) (a .one)) ≡ paint out (a .stride) (a .shape .w) (a .shape .h) (value a)
 unfolding value blend
-value-two a r c e = rw e
+painted-one a out e = paint-same _ _ _ _ _ _ (λ r c rh cw. rw e)
 
-pub value-one : (a : Call) (r c : ℕ) → a .shape .average ≡ false → fromRef (a .shape) (a .one) r c ≡ value a r c
+-- and list 1 on top of it, where it is
+pub painted-two : (a : Call) (out : List ℕ) (m : ℕ) → Taken a (length out) m → a .shape .average ≡ true
+    → let b = a .shape in
+    let first = paint out (a .stride) (b .w) (b .h) (fromRef b (a .one)) in
+    paint first (a .stride) (b .w) (b .h) (meanWith first (a .stride) (fromRef b (a .two))) ≡ paint out (a .stride) (b .w) (b .h) (value a)
 unfolding value blend
-value-one a r c e = rw e
+painted-two a out m t e =
+    let b = a .shape in
+    let f = legal-says b (a .one) (t .one) in
+    let fit = holds-row (b .h) (a .stride) (b .w) (length out) (b .h - 1) (t .out) (omega (arith, f .h)) in
+    mean-painted out (a .stride) (b .w) (b .h) _ _ (t .apart) fit ∙ paint-same _ _ _ _ _ _ (λ r c rh cw. rw e)

@@ -5,17 +5,18 @@ use Prim.Native.Nat.{ℕ, _+_, _-_, _*_, _^_}
 use lib.IntN.{ℤ}
 use Rattle.base.specs.Position.{toN, mod16, along, place}
 use Rattle.base.proofs.Lift.{Diff, Lifted, lifted, diff-along, place-lifted}
-use Rattle.kernels.specs.Taps.{tap}
-use Rattle.kernels.specs.Filter.{filtered}
+use Rattle.taps.specs.Taps.{tap}
+use Rattle.taps.specs.Filter.{filtered}
 use Rattle.samples.specs.Sample.{across, sample}
-use Rattle.samples.specs.Plane.{Lent, lent, plane, widthOf, heightOf}
+use Rattle.planes.specs.Plane.{Lent, lent, plane, widthOf, heightOf}
 use Rattle.samples.specs.Call.{ref, fromRef}
-use Rattle.kernels.specs.Kernel.{seat, level}
-use Rattle.samples.specs.Lifted.{view, blockAt}
+use Rattle.taps.specs.Kernel.{seat, level}
+use Rattle.passes.specs.Lifted.{blockAt}
+use Rattle.planes.specs.Plane.{view}
 use Rattle.samples.specs.declared.block_inter_pred.BlockShape.{BlockShape}
 use Rattle.samples.specs.declared.block_inter_pred.Stepping.{Stepping}
-use Rattle.samples.specs.declared.plane.PlaneGeom.{PlaneGeom}
-use Rattle.kernels.proofs.Filtered.{filtered-same, samples-same}
+use Rattle.planes.specs.declared.plane.PlaneGeom.{PlaneGeom}
+use Rattle.taps.proofs.Filtered.{filtered-same, samples-same}
 
 -- one pass
 level-is : (max : ℕ) (taps : ℕ → ℕ → ℤ) (x : ℕ → ℕ) (last : ℕ) (z : ℤ) (q : ℕ) → Lifted z q 200000

@@ -1,7 +1,5 @@
 pub mod Accepted
-pub mod Bands
-pub mod Blocks
 pub mod Bridge
-pub mod Copied
+pub mod Depths
 pub mod Outcomes
 pub mod Reached

@@ -5,7 +5,7 @@ use mathlib.Core.List.{List}
 use Prim.Native.Nat.{ℕ}
 use Rattle.base.specs.Answer.{Lowest}
 use Rattle.base.proofs.Answered.{lowest}
-use Rattle.samples.specs.Plane.{Lent, readRows, ReadOutcome}
+use Rattle.planes.specs.Plane.{Lent, readRows, ReadOutcome}
 use Rattle.samples.specs.Call.{Call, blockRows, Outcome}
 
 -- any two permitted outcomes of a row read are equal

@@ -11,9 +11,9 @@ use Rattle.base.specs.Answer.{Row, row, answer, BLOCK, FILTER, SIZE, START, SHO
 use Rattle.base.specs.Number.{between, within}
 use Rattle.base.specs.Position.{toN, along}
 use Rattle.base.specs.Paint.{paint}
-use Rattle.kernels.specs.Taps.{tap}
+use Rattle.taps.specs.Taps.{tap}
 use Rattle.samples.specs.Sample.{sample, blend}
-use Rattle.samples.specs.Plane.{Lent, plane, widthOf, heightOf, holds, sized, fits}
+use Rattle.planes.specs.Plane.{Lent, plane, widthOf, heightOf, holds, sized, fits}
 use Rattle.samples.specs.declared.block_inter_pred.BlockShape.{BlockShape}
 use Rattle.samples.specs.declared.block_inter_pred.Stepping.{Stepping}
 

@@ -1,5 +1,4 @@
 pub mod Sample
-pub mod Plane
 pub mod Call
 pub mod Reach
-pub mod Lifted
+pub mod Single

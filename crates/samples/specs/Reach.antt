@@ -4,7 +4,7 @@ use mathlib.Core.Path.{_≡_}
 use mathlib.Core.Bool.{true}
 use lib.IntN.{ℤ, pos, _+ℤ_, _-ℤ_}
 use Rattle.base.specs.Position.{toN, floor16, hold, along}
-use Rattle.samples.specs.Plane.{Lent, plane, widthOf, heightOf}
+use Rattle.planes.specs.Plane.{Lent, plane, widthOf, heightOf}
 use Rattle.samples.specs.Call.{Ref, Call}
 use Rattle.samples.specs.declared.block_inter_pred.Stepping.{Stepping}
 

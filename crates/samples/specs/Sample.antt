@@ -4,7 +4,7 @@ use Prim.Native.Nat.{ℕ, _+_, _/_}
 use mathlib.Core.Bool.{Bool, true, false}
 use lib.IntN.{ℤ}
 use Rattle.base.specs.Position.{mod16, place}
-use Rattle.kernels.specs.Filter.{filtered}
+use Rattle.taps.specs.Filter.{filtered}
 
 -- horizontal: "at reference row v, sum over t = 0..7 of tap(P mod 16, t) times the sample at row v, column floor(P/16) + t - 3", held into 0..X
 unfoldable pub across : ℕ → (ℕ → ℕ → ℤ) → (ℕ → ℕ → ℕ) → ℕ → ℕ → ℤ → ℕ

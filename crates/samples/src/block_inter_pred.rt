@@ -8,18 +8,13 @@ ghost use lib.ListN.{length};
 ghost use Rattle.base.specs.Number as Number;
 ghost use Rattle.base.specs.Paint.{paint};
 ghost use Rattle.base.proofs.Lift.{Diff};
-ghost use Rattle.samples.specs.Plane as Plane;
-ghost use Rattle.samples.specs.Plane.{lent};
+ghost use Rattle.planes.specs.Plane as Plane;
+ghost use Rattle.planes.specs.Plane.{lent};
 ghost use Rattle.samples.specs.Call as Call;
 ghost use Rattle.samples.specs.Call.{call, fromRef, numberOf, ref, value, Outcome};
-ghost use Rattle.samples.specs.Lifted as Lifted;
-ghost use Rattle.samples.specs.Lifted.{numberOne, Legal, meanWith};
-use crate::passes::block;
-use crate::passes::block_mean;
-use crate::plane::PlaneGeom;
-use crate::plane::fits;
-use crate::plane::holds;
-use crate::plane::sized;
+ghost use Rattle.samples.specs.Single as Single;
+ghost use Rattle.passes.specs.Lifted.{meanWith};
+ghost use Rattle.samples.specs.Single.{numberOne, Legal};
 use base::BLOCK;
 use base::FILTER;
 use base::SHORT;
@@ -29,6 +24,12 @@ use base::Sixteenth;
 use base::between;
 use base::natural;
 use base::within;
+use passes::block;
+use passes::block_mean;
+use planes::PlaneGeom;
+use planes::fits;
+use planes::holds;
+use planes::sized;
 
 // The block: its size in samples, which filter, the bit depth, and whether two references are averaged.
 #[repr(C)]
@@ -111,7 +112,7 @@ fn refusal_one<'a>(
 
 // The lower of two numbers; 0 is none.
 fn lowest(a: u32, b: u32) -> u32
-    ensures { λ r. ⌜ r ≡ Lifted.lowest a b ⌝ }
+    ensures { λ r. ⌜ r ≡ Single.lowest a b ⌝ }
 {
     if a == 0 {
         return b;
@@ -120,34 +121,6 @@ fn lowest(a: u32, b: u32) -> u32
         return a;
     }
     if a < b { a } else { b }
-}
-
-// "anything of list 1 only when averaging"
-fn refusal<'a>(
-    shape: BlockShape,
-    geom: PlaneGeom,
-    from: Stepping,
-    upper: &'a [u16],
-    lower: &'a [u16],
-    geom2: PlaneGeom,
-    from2: Stepping,
-    upper2: &'a [u16],
-    lower2: &'a [u16],
-    stride: usize,
-    n: usize,
-    m: usize,
-) -> u32
-    ensures { λ r. ⌜ r ≡ numberOf
-        (call shape (ref (lent geom (now (upper .entry)) (now (lower .entry))) from)
-        (ref (lent geom2 (now (upper2 .entry)) (now (lower2 .entry))) from2) stride)
-        n m ⌝ }
-{
-    let one = refusal_one(shape, geom, from, upper, lower, stride, n, m);
-    if shape.average {
-        let two = refusal_one(shape, geom2, from2, upper2, lower2, stride, n, m);
-        return lowest(one, two);
-    }
-    one
 }
 
 // 3,200,000 is a multiple of 16, and more than the lowest start with the taps before it.
@@ -245,8 +218,9 @@ fn predict_two<'a>(
     )
 }
 
-// An accepted call: list 0 into the output, then, where it is averaged, list 1 on top of it.
-fn predict<'a>(
+// A call already known to be accepted: list 0 into the output, then, where it is averaged, list 1 on top of it.
+// For the whole prediction, which has judged its own call; it asks for the proof and gives no number.
+pub fn predict_accepted<'a>(
     shape: BlockShape,
     geom: PlaneGeom,
     from: Stepping,
@@ -273,6 +247,41 @@ fn predict<'a>(
     }
 }
 
+// A call that averages: the lower of the two references' numbers, list 0's being known, or list 0 and list 1 on top of it.
+fn averaged<'a>(
+    one: u32,
+    shape: BlockShape,
+    geom: PlaneGeom,
+    from: Stepping,
+    upper: &'a [u16],
+    lower: &'a [u16],
+    geom2: PlaneGeom,
+    from2: Stepping,
+    upper2: &'a [u16],
+    lower2: &'a [u16],
+    room: &mut [u16],
+    out: &mut [u16],
+    stride: usize,
+) -> u32
+    requires { ⌜ shape .average ≡ true ⌝ }
+    requires { ⌜ one ≡ numberOne shape (ref (lent geom (now upper) (now lower)) from) stride (length (now out)) (length (now room)) ⌝ }
+    ensures { λ r. ⌜ Outcome
+        (call shape (ref (lent geom (now (upper .entry)) (now (lower .entry))) from)
+        (ref (lent geom2 (now (upper2 .entry)) (now (lower2 .entry))) from2) stride)
+        (now (out .entry)) (now (room .entry)) r (now (out .exit)) (now (room .exit)) ⌝ }
+{
+    let n = out.len();
+    let m = room.len();
+    let two = refusal_one(shape, geom2, from2, upper2, lower2, stride, n, m);
+    let number = lowest(one, two);
+    if number != 0 {
+        return number;
+    }
+    predict_one(shape, geom, from, upper, lower, room, out, stride);
+    predict_two(shape, geom2, from2, upper2, lower2, room, out, stride);
+    0
+}
+
 // The block's samples into the output; the answer's number is given back. List 1 is looked at only when averaging.
 pub fn block_inter_predict<'a>(
     shape: BlockShape,
@@ -295,36 +304,27 @@ pub fn block_inter_predict<'a>(
 {
     let n = out.len();
     let m = room.len();
-    let number = refusal(
-        shape,
-        geom,
-        from,
-        upper,
-        lower,
-        geom2,
-        from2,
-        upper2,
-        lower2,
-        stride,
-        n,
-        m,
-    );
-    if number != 0 {
-        return number;
+    let one = refusal_one(shape, geom, from, upper, lower, stride, n, m);
+    if shape.average {
+        return averaged(
+            one,
+            shape,
+            geom,
+            from,
+            upper,
+            lower,
+            geom2,
+            from2,
+            upper2,
+            lower2,
+            room,
+            out,
+            stride,
+        );
     }
-    predict(
-        shape,
-        geom,
-        from,
-        upper,
-        lower,
-        geom2,
-        from2,
-        upper2,
-        lower2,
-        room,
-        out,
-        stride,
-    );
+    if one != 0 {
+        return one;
+    }
+    predict_one(shape, geom, from, upper, lower, room, out, stride);
     0
 }

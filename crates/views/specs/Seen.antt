@@ -2,8 +2,8 @@
 use Prim.Native.Nat.{ℕ}
 use lib.IntN.{ℤ}
 use denote.Ref.{now}
-use Rattle.samples.specs.Plane.{Lent, lent}
-use Rattle.samples.specs.declared.plane.PlaneGeom.{PlaneGeom}
+use Rattle.planes.specs.Plane.{Lent, lent}
+use Rattle.planes.specs.declared.plane.PlaneGeom.{PlaneGeom}
 use Rattle.views.specs.declared.ref_plane.RefPlane.{RefPlane}
 
 -- a plane's numbers

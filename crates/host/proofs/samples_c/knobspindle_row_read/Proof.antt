@@ -4,9 +4,9 @@ use native.Mathlib.Omega.{arith}
 use borrow.Author.Needs.{needs}
 use borrow.Author.Tests.{ne-eqb}
 use Rattle.base.specs.Answer.{answer}
-use Rattle.samples.specs.Plane.{Lent, lent, readRows}
-use Rattle.samples.proofs.Bands.{read-accepted, fits-says}
-use Rattle.kernels.proofs.Casts.{read-back, small-nat}
+use Rattle.planes.specs.Plane.{Lent, lent, readRows}
+use Rattle.planes.proofs.Bands.{read-accepted, fits-says}
+use Rattle.base.proofs.Casts.{read-back, small-nat}
 use Rattle.host.specs.InC.{rowPlace}
 use Rattle.host.proofs.samples_c.knobspindle_row_read.Statement.{statement}
 use Rattle.host.proofs.samples_c.knobspindle_row_read.Tie as tie

@@ -8,7 +8,7 @@ use borrow.Author.Tests.{lt-ltb}
 use borrow.Author.Needs.{needs}
 use Rattle.base.specs.Number.{within}
 use Rattle.base.proofs.Tests.{and-both, within-both}
-use Rattle.samples.specs.Plane.{holds}
+use Rattle.planes.specs.Plane.{holds}
 use Rattle.judgement.specs.Whole.{destFits}
 use Rattle.judgement.proofs.judging.dest_fits.Statement.{statement}
 use Rattle.judgement.proofs.judging.dest_fits.Tie as tie

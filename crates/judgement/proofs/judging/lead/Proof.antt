@@ -1,6 +1,6 @@
 -- `lead` meets its contract: each call's result is its definition's. Assumes nothing.
 use borrow.Author.Needs.{needs}
-use Rattle.kernels.proofs.Casts.{read-back}
+use Rattle.base.proofs.Casts.{read-back}
 use Rattle.judgement.proofs.Joined.{lead-is}
 use Rattle.judgement.proofs.judging.lead.Statement.{statement}
 use Rattle.judgement.proofs.judging.lead.Tie as tie

@@ -1,7 +1,7 @@
 -- `plane_geom` meets its contract: both sides read back. Assumes nothing.
 use borrow.Author.Needs.{needs, sfits-of}
 use mir.Facts.{toZ-ofZ}
-use Rattle.kernels.proofs.Casts.{read-back}
+use Rattle.base.proofs.Casts.{read-back}
 use Rattle.judgement.proofs.judging.plane_geom.Statement.{statement}
 use Rattle.judgement.proofs.judging.plane_geom.Tie as tie
 

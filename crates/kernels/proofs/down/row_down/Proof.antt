@@ -1,8 +1,8 @@
 -- `kernels::down::row_down` meets its contract: phase 0 is the fourth row, any other the first of one row. Assumes nothing.
 use Rattle.base.proofs.Painted.{fill-same}
 use Rattle.kernels.proofs.Lines.{first-row, down-whole}
-use Rattle.kernels.proofs.Loops.{one-row}
-use Rattle.kernels.proofs.Low.{one-below}
+use Rattle.taps.proofs.Loops.{one-row}
+use Rattle.lanes.proofs.Low.{one-below}
 use borrow.Author.Needs.{needs}
 use mathlib.Core.Path.{_≡_, _∙_}
 use native.Mathlib.Omega.{arith}
@@ -34,7 +34,7 @@ rows-down-requires c κs =
     let i = c .before in
     let mid = i .before .before in
     let s = mid .before .before in
-    (s .pre .0, (omega (arith, s .pre .1 .0), (omega (arith, s .pre .1 .0), one-below (s .pre .1 .1))))
+    (s .pre .0, (omega (arith, s .pre .1 .0), (omega (arith, s .pre .1 .0), (one-below (s .pre .1 .1 .0), s .pre .1 .1 .1))))
 
 same-length-2 : tie.Need-same-length-2
 same-length-2 c = search needs

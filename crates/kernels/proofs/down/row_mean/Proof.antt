@@ -4,8 +4,8 @@ use Prim.Native.Nat.{_+_, _-_, _≤_}
 use native.Mathlib.Omega.{arith}
 use borrow.Author.Needs.{needs}
 use Rattle.base.proofs.Painted.{fill-else}
-use Rattle.kernels.specs.Kernel.{listed, meanOf}
-use Rattle.kernels.proofs.Loops.{Filling, fill-none, fill-turn}
+use Rattle.taps.specs.Kernel.{listed, meanOf}
+use Rattle.taps.proofs.Loops.{Filling, fill-none, fill-turn}
 use Rattle.kernels.proofs.down.row_mean.Statement.{statement}
 use Rattle.kernels.proofs.down.row_mean.Tie as tie
 

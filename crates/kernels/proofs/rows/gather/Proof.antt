@@ -1,15 +1,12 @@
--- `kernels::rows::gather` meets its contract: three runs, one after the other. Assumes nothing.
-use Prim.Native.Nat.{ℕ, _+_, _-_, _<_, _≤_}
-use Rattle.base.proofs.Lift.{Start}
-use Rattle.base.proofs.Painted.{length-fill}
-use Rattle.base.specs.Answer.{row}
-use Rattle.base.specs.Paint.{fill}
-use Rattle.kernels.proofs.Runs.{Cut, cut, three-runs}
-use Rattle.kernels.specs.Kernel.{alike, onward}
+-- `kernels::rows::gather` meets its contract: three runs, one after the other, each over what the one before left past its end. Assumes nothing.
+use Prim.Native.Nat.{ℕ, _+_, _-_, _^_, _<_, _≤_}
+use Rattle.taps.proofs.Runs.{Cut, cut, three-runs}
 use borrow.Author.Needs.{needs}
-use lib.ListN.{length, getD}
-use mathlib.Core.List.{List}
-use mathlib.Core.Path.{_≡_, ap, _∙_}
+use lib.ListN.{length}
+use mathlib.Core.Path.{_≡_, _∙_}
+use mir.Syntax.{w64}
+use mir.Val.{Fits}
+use native.Mathlib.Nat.{le-add-right, le-refl}
 use native.Mathlib.Omega.{arith}
 use Rattle.kernels.proofs.rows.gather.Statement.{statement}
 use Rattle.kernels.proofs.rows.gather.Tie as tie
@@ -17,25 +14,31 @@ use Rattle.kernels.proofs.rows.gather.Tie as tie
 abbrev entry : tie.After-fewer → tie.Start
 entry c = let mid = c .before .before in mid .before .before .before
 
-abbrev fresh : tie.After-run-same → tie.After-fewer
+abbrev fresh : tie.After-run-eights → tie.After-fewer
 fresh c = c .before .before .before
 
-abbrev once : tie.After-run-copied → tie.After-run-same
+abbrev once : tie.After-run-moved → tie.After-run-eights
 once c = let mid = c .before .before in mid .before .before
+
+line-long : (s : tie.Start) → length (s .args .line .now) < 2 ^ 64
+line-long s = s .good .1 .1 .1 .1 .0 .0
 
 -- where the runs end
 ends : (c : tie.After-fewer)
     → Cut (entry c .args .last) (entry c .args .b) (entry c .args .m) (c .before .before .left-of .result) (c .before .held .result) (c .fewer .result)
 ends c = cut _ _ _ _ _ _ (c .before .before .left-of .ensures) (c .before .held .ensures) (c .fewer .ensures)
 
-part : (l k m n : ℕ) → l + k ≤ m → m ≤ n → 0 + l ≤ n
-part l k m n fit long = omega arith
+left-room : (at l k m n : ℕ) → l + k ≤ m → at + m + 8 ≤ n → at + l + 7 ≤ n
+left-room at l k m n fit room = omega arith
 
-inside : (x last n : ℕ) → x ≤ last + 1 → last < n → x ≤ n
-inside x last n h below = omega arith
+inside : (x s k last n : ℕ) → x ≤ s → s + k ≤ last + 1 → last < n → x + k ≤ n
+inside x s k last n from h below = omega arith
 
-within : (l k m n long : ℕ) → l + k ≤ m → m ≤ n → long ≡ n → l + k ≤ long
-within l k m n long fit h e = omega arith
+middle-room : (at l k m n long : ℕ) → l + k ≤ m → at + m + 8 ≤ n → long ≡ n → at + l + k + 8 ≤ long
+middle-room at l k m n long fit room e = omega arith
+
+right-room : (at l k m n long : ℕ) → l + k ≤ m → at + m + 8 ≤ n → long ≡ n → at + l + k + (m - l - k) + 7 ≤ long
+right-room at l k m n long fit room e = omega arith
 
 above : (l k m : ℕ) → l + k ≤ m → l ≤ m
 above l k m fit = omega arith
@@ -43,8 +46,9 @@ above l k m fit = omega arith
 left-over : (l k m : ℕ) → l + k ≤ m → k ≤ m - l
 left-over l k m fit = omega arith
 
-rest : (l k m n long : ℕ) → l + k ≤ m → m ≤ n → long ≡ n → l + k + (m - l - k) ≤ long
-rest l k m n long fit h e = omega arith
+-- a place of the line is a number of the machine, since the line's length is one
+place : (x at l k m n : ℕ) → x ≤ at + l + k → l + k ≤ m → at + m + 8 ≤ n → n < 2 ^ 64 → Fits w64 x
+place x at l k m n h fit room long = record { fits = omega arith }
 
 left-of-requires : tie.Need-left-of-requires
 left-of-requires c κs = search needs
@@ -64,46 +68,57 @@ sub-fewer-2 c = search needs
 fewer-requires : tie.Need-fewer-requires
 fewer-requires c κs = search needs
 
-shared-slice-read-run-same : tie.Need-shared-slice-read-run-same
-shared-slice-read-run-same c = search needs
+shared-slice-read-run-eights : tie.Need-shared-slice-read-run-eights
+shared-slice-read-run-eights c = search needs
 
-run-same-requires : tie.Need-run-same-requires
-run-same-requires c κs = let e = ends (c .before .before) in part _ _ _ _ (e .fits .0) (entry (c .before .before) .pre .2)
+run-eights-requires : tie.Need-run-eights-requires
+run-eights-requires c κs = let f = c .before .before in left-room _ _ _ _ _ (ends f .fits .0) (entry f .pre .4)
 
-run-copied-requires : tie.Need-run-copied-requires
-run-copied-requires c κs =
+add-run-moved : tie.Need-add-run-moved
+add-run-moved c =
+    let f = fresh (c .before .before .before) in
+    let s = entry f in
+    place _ (s .args .at) _ _ _ _ (le-add-right _ _) (ends f .fits .0) (s .pre .4) (line-long s)
+
+run-moved-requires : tie.Need-run-moved-requires
+run-moved-requires c κs =
     let r = c .before .before .before in
     let f = fresh r in
     let e = ends f in
-    (inside _ _ _ (e .fits .1) (entry f .pre .0), within _ _ _ _ _ (e .fits .0) (entry f .pre .2) (ap length (r .run-same .ensures) ∙ length-fill _ _ _ _))
+    (inside _ _ _ _ _ (omega arith) (e .fits .1) (entry f .pre .0), middle-room _ _ _ _ _ _ (e .fits .0) (entry f .pre .4) (r .run-eights .ensures .len))
 
-mul-run-same : tie.Need-mul-run-same
-mul-run-same c = search needs
+mul-run-eights : tie.Need-mul-run-eights
+mul-run-eights c = search needs
 
-shared-slice-read-run-same-2 : tie.Need-shared-slice-read-run-same-2
-shared-slice-read-run-same-2 c = search needs
+shared-slice-read-run-eights-2 : tie.Need-shared-slice-read-run-eights-2
+shared-slice-read-run-eights-2 c = search needs
 
-sub-run-same : tie.Need-sub-run-same
-sub-run-same c = let e = ends (fresh (once (c .before .before .before))) in above _ _ _ (e .fits .0)
+sub-run-eights : tie.Need-sub-run-eights
+sub-run-eights c = let e = ends (fresh (once (c .before .before .before))) in above _ _ _ (e .fits .0)
 
-sub-run-same-2 : tie.Need-sub-run-same-2
-sub-run-same-2 c = let e = ends (fresh (once (c .before .before .before))) in left-over _ _ _ (e .fits .0)
+sub-run-eights-2 : tie.Need-sub-run-eights-2
+sub-run-eights-2 c = let e = ends (fresh (once (c .before .before .before))) in left-over _ _ _ (e .fits .0)
 
-add-run-same : tie.Need-add-run-same
-add-run-same c =
+add-run-eights : tie.Need-add-run-eights
+add-run-eights c =
     let mid = c .before .before in
     let f = fresh (once (mid .before .before)) in
-    let e = ends f in
-    omega (arith, e .fits .0, entry f .pre .3)
+    let s = entry f in
+    place _ (s .args .at) _ _ _ _ (le-add-right _ _) (ends f .fits .0) (s .pre .4) (line-long s)
 
-run-same-requires-2 : tie.Need-run-same-requires-2
-run-same-requires-2 c κs =
+add-run-eights-2 : tie.Need-add-run-eights-2
+add-run-eights-2 c =
+    let mid = c .before .before in
+    let f = fresh (once (mid .before .before)) in
+    let s = entry f in
+    place _ (s .args .at) _ _ _ _ (le-refl _) (ends f .fits .0) (s .pre .4) (line-long s)
+
+run-eights-requires-2 : tie.Need-run-eights-requires-2
+run-eights-requires-2 c κs =
     let mid = c .before .before in
     let r = mid .before .before in
     let f = fresh (once r) in
-    let e = ends f in
-    rest _ _ _ _ _ (e .fits .0) (entry f .pre .2)
-    (ap length (r .run-copied .ensures) ∙ length-fill _ _ _ _ ∙ ap length (once r .run-same .ensures) ∙ length-fill _ _ _ _)
+    right-room _ _ _ _ _ _ (ends f .fits .0) (entry f .pre .4) (r .run-moved .ensures .len ∙ once r .run-eights .ensures .len)
 
 same-length : tie.Need-same-length
 same-length c = search needs
@@ -114,14 +129,7 @@ returns c =
     let mid = t .before .before in
     let r = mid .before .before .before in
     let f = fresh (once r) in
-    let a = entry f .args in
-    let l = f .before .before .left-of .result in
-    let s = f .before .held .result in
-    let k = f .fewer .result in
-    t .run-same2 .ensures
-    ∙ ap (λ (x : List ℕ). fill x (l + k) (a .m - l - k) (alike (getD (a .row .now) (a .last) 0)))
-    (r .run-copied .ensures ∙ ap (λ (x : List ℕ). fill x l k (onward (a .row .now) s)) (once r .run-same .ensures))
-    ∙ three-runs (a .last) (a .b) (a .m) l s k (a .row .now) (a .line .now) (ends f)
+    three-runs (entry f .args .row .now) (ends f) (once r .run-eights .ensures) (r .run-moved .ensures) (t .run-eights2 .ensures)
 
 pub gather-spec : {M : Type 1} → statement M
 gather-spec =
@@ -133,14 +141,16 @@ gather-spec =
     sub-fewer
     sub-fewer-2
     fewer-requires
-    shared-slice-read-run-same
-    run-same-requires
-    run-copied-requires
-    mul-run-same
-    shared-slice-read-run-same-2
-    sub-run-same
-    sub-run-same-2
-    add-run-same
-    run-same-requires-2
+    shared-slice-read-run-eights
+    run-eights-requires
+    add-run-moved
+    run-moved-requires
+    mul-run-eights
+    shared-slice-read-run-eights-2
+    sub-run-eights
+    sub-run-eights-2
+    add-run-eights
+    add-run-eights-2
+    run-eights-requires-2
     same-length
     returns)

@@ -8,8 +8,8 @@ use lib.ListN.{getD}
 use Rattle.base.specs.Answer.{row}
 use Rattle.base.proofs.Lift.{Start, start}
 use Rattle.base.proofs.Painted.{fill-same}
-use Rattle.kernels.specs.Taps.{tap}
-use Rattle.kernels.specs.Kernel.{heldFrom}
+use Rattle.taps.specs.Taps.{tap}
+use Rattle.taps.specs.Kernel.{heldFrom}
 use Rattle.kernels.proofs.Lines.{line-is}
 use Rattle.kernels.proofs.rows.row_across.Statement.{statement}
 use Rattle.kernels.proofs.rows.row_across.Tie as tie

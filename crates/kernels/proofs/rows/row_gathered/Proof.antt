@@ -1,16 +1,11 @@
 -- `kernels::rows::row_gathered` meets its contract: the line has the held samples. Assumes nothing.
-use mathlib.Core.Path.{_≡_, ap, _∙_}
-use mathlib.Core.List.{List}
-use Prim.Native.Nat.{ℕ, _+_, _-_, _*_, _/_, _%_, _≤_}
+use mathlib.Core.Path.{_≡_, _∙_}
+use Prim.Native.Nat.{_-_, _*_, _%_, _≤_}
 use native.Mathlib.Nat.{mul-le-mul}
 use native.Mathlib.Omega.{arith}
 use borrow.Author.Needs.{needs}
-use lib.ListN.{length, getD}
-use Rattle.base.specs.Answer.{row}
-use Rattle.base.proofs.Lift.{Start, start}
-use Rattle.base.proofs.Painted.{length-fill, fill-at, fill-same}
-use Rattle.kernels.specs.Taps.{tap}
-use Rattle.kernels.specs.Kernel.{heldFrom}
+use Rattle.base.proofs.Painted.{fill-same}
+use Rattle.taps.specs.Taps.{tap}
 use Rattle.kernels.proofs.Lines.{line-is}
 use Rattle.kernels.proofs.rows.row_gathered.Statement.{statement}
 use Rattle.kernels.proofs.rows.row_gathered.Tie as tie
@@ -44,7 +39,7 @@ row-line-requires c κs =
     let g = c .before .before .before in
     let s1 = g .before .before .before in
     let s = s1 .before in
-    (s .pre .0, (s .pre .1 .0, omega (arith, s .pre, far s, ap length (g .gather .ensures) ∙ length-fill _ _ _ _)))
+    (s .pre .0, (s .pre .1 .0, omega (arith, s .pre, far s, g .gather .ensures .len)))
 
 same-length : tie.Need-same-length
 same-length c = search needs
@@ -60,10 +55,7 @@ returns c =
     let e : a .p .phase ≡ a .start % 16 = s .pre .1 .1 .0 .1 in
     rw e at (r .row-line .ensures)
     ∙ fill-same _ _ _ _ _
-    (line-is (a .max) (tap (a .p .filter)) (a .row .now) _ (a .last) (a .start) (a .step) (a .w) 0
-    (λ j jm.
-    ap (λ (l : List ℕ). getD l (0 + j) 0) (g .gather .ensures)
-    ∙ fill-at _ 0 _ (heldFrom (a .row .now) (a .last) (a .start / 16)) (omega (arith, s .pre, far s)) j jm))
+    (line-is (a .max) (tap (a .p .filter)) (a .row .now) _ (a .last) (a .start) (a .step) (a .w) 0 (g .gather .ensures .is))
 
 pub row-gathered-spec : {M : Type 1} → statement M
 row-gathered-spec =

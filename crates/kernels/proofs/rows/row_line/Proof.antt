@@ -4,9 +4,9 @@ use Prim.Native.Nat.{ℕ, _-_, _*_}
 use native.Mathlib.Omega.{arith}
 use borrow.Author.Needs.{needs}
 use Rattle.base.proofs.Painted.{fill-same}
-use Rattle.kernels.specs.Taps.{tap}
+use Rattle.taps.specs.Taps.{tap}
 use Rattle.kernels.proofs.Lines.{first-row, ran-stepped, clipped-stepped}
-use Rattle.kernels.proofs.Loops.{one-row}
+use Rattle.taps.proofs.Loops.{one-row}
 use Rattle.kernels.proofs.rows.row_line.Statement.{statement}
 use Rattle.kernels.proofs.rows.row_line.Tie as tie
 
@@ -51,7 +51,8 @@ rows-across-requires c κs =
     let s = x .before .before .before in
     let a = s .args in
     let e : a .step ≡ 16 = omega arith in
-    (s .pre .1 .0, (omega (arith, s .pre .1 .1 .0), omega (arith, ap (λ (k : ℕ). k * (a .w - 1)) e, s .pre .1 .1 .1)))
+    let m = ap (λ (k : ℕ). k * (a .w - 1)) e in
+    (s .pre .1 .0, (omega (arith, s .pre .1 .1 .0), (omega (arith, m, s .pre .1 .1 .1), s .pre .1 .1 .1 .1)))
 
 same-length-3 : tie.Need-same-length-3
 same-length-3 c = search needs

@@ -4,9 +4,9 @@ use Prim.Native.Nat.{_-_, _*_, _≤_}
 use native.Mathlib.Nat.{mul-le-mul, mul-le-mul-left}
 use native.Mathlib.Omega.{arith}
 use borrow.Author.Needs.{needs}
-use Rattle.kernels.specs.Taps.{tap}
-use Rattle.kernels.specs.Kernel.{stepped}
-use Rattle.kernels.proofs.Loops.{Filling, fill-none, fill-turn}
+use Rattle.taps.specs.Taps.{tap}
+use Rattle.taps.specs.Kernel.{stepped}
+use Rattle.taps.proofs.Loops.{Filling, fill-none, fill-turn}
 use Rattle.kernels.proofs.rows.row_stepped.Statement.{statement}
 use Rattle.kernels.proofs.rows.row_stepped.Tie as tie
 

@@ -4,8 +4,8 @@ use mathlib.Core.Path.{_∙_}
 use native.Mathlib.Nat.{add-zero, mul-zero}
 use borrow.Author.Needs.{needs}
 use Rattle.base.proofs.Lift.{Start}
-use Rattle.kernels.specs.Kernel.{apart}
-use Rattle.kernels.proofs.Filtered.{one-is}
+use Rattle.taps.specs.Kernel.{apart}
+use Rattle.taps.proofs.Filtered.{one-is}
 use Rattle.kernels.proofs.rows.window.Statement.{statement}
 use Rattle.kernels.proofs.rows.window.Tie as tie
 

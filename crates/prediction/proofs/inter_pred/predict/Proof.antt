@@ -1,15 +1,13 @@
 -- `predict` meets its contract: nothing where the part is empty, else what the block prediction below paints. Assumes nothing.
-use mathlib.Core.Path.{_≡_, refl, sym, ap, _∙_}
+use mathlib.Core.Path.{refl, sym, ap, _∙_}
 use mathlib.Core.List.{List, _++_}
-use Prim.Native.Nat.{ℕ, _-_, _≤_, _<_}
+use Prim.Native.Nat.{ℕ, _≤_, _<_}
 use native.Mathlib.Omega.{arith}
 use borrow.Rule.Slice.PartAt.{part-to-end}
-use lib.ListN.{length, take, drop, length-drop}
+use lib.ListN.{length, take, length-drop}
 use Rattle.base.specs.Paint.{onPart}
-use Rattle.samples.specs.Plane.{lent}
-use Rattle.samples.specs.Call as Call
+use Rattle.planes.specs.Plane.{lent}
 use Rattle.samples.specs.Call.{Call, call, ref}
-use Rattle.samples.proofs.Accepted.{after-taken}
 use Rattle.prediction.specs.Chain.{paintFrom}
 use Rattle.prediction.proofs.Ready.{paint-none, none-or, some-both, put-rest}
 use borrow.Author.Needs.{needs}
@@ -43,20 +41,26 @@ start c =
     let s = entry (c .before) in
     s .pre .place (some c .0) (some c .1)
 
-mul-block-inter-predict : tie.Need-mul-block-inter-predict
-mul-block-inter-predict c = let e = c .before in let s = entry (e .before) in omega (arith, start e, s .good)
+mul-predict-accepted : tie.Need-mul-predict-accepted
+mul-predict-accepted c = let e = c .before in let s = entry (e .before) in omega (arith, start e, s .good)
 
-sub-block-inter-predict : tie.Need-sub-block-inter-predict
-sub-block-inter-predict c = start (c .before)
+sub-predict-accepted : tie.Need-sub-predict-accepted
+sub-predict-accepted c = start (c .before)
 
-part-block-inter-predict-start : tie.Need-part-block-inter-predict-start
-part-block-inter-predict-start c = start (c .before)
+part-predict-accepted-start : tie.Need-part-predict-accepted-start
+part-predict-accepted-start c = start (c .before)
 
-part-block-inter-predict-end : tie.Need-part-block-inter-predict-end
-part-block-inter-predict-end c = search needs
+part-predict-accepted-end : tie.Need-part-predict-accepted-end
+part-predict-accepted-end c = search needs
 
-block-inter-predict-requires : tie.Need-block-inter-predict-requires
-block-inter-predict-requires c κs = search needs
+predict-accepted-requires : tie.Need-predict-accepted-requires
+predict-accepted-requires c κs =
+    let e = c .before .before in
+    let s = entry (e .before) in
+    let out = s .args .out .now in
+    let has = some e in
+    let rest = ap length (part-to-end out (s .args .i)) ∙ length-drop (s .args .i) out in
+    rw rest (s .pre .taken (has .0) (has .1))
 
 same-length : tie.Need-same-length
 same-length c = search needs
@@ -74,25 +78,19 @@ returns-2 c =
     let s = entry (e .before) in
     let out = s .args .out .now in
     let i = s .args .i in
-    let has = some e in
-    let zero = s .pre .taken (has .0) (has .1) in
-    let from : take (length out - i) (drop i out) ≡ drop i out = part-to-end out i in
-    let o = rw from at (b .block-inter-predict .ensures) in
-    let less : length (drop i out) ≡ length out - i = length-drop i out in
-    let accepted : Call.numberOf (asked s) (length (drop i out)) (length (s .args .room .now)) ≡ 0 = rw less zero in
-    let put = put-rest i out _ (start e) in
-    (o .number ∙ accepted, put ∙ ap (λ (l : List ℕ). take i out ++ l) (o .output ∙ after-taken (asked s) (drop i out) _ accepted))
+    let painted = rw (part-to-end out i) at (b .predict-accepted .ensures) in
+    (refl, put-rest i out _ (start e) ∙ ap (λ (l : List ℕ). take i out ++ l) painted)
 
 pub predict-spec : {M : Type 1} → statement M
 predict-spec =
     tie.close
     (tie.spec
     returns
-    mul-block-inter-predict
-    sub-block-inter-predict
-    part-block-inter-predict-start
-    part-block-inter-predict-end
-    block-inter-predict-requires
+    mul-predict-accepted
+    sub-predict-accepted
+    part-predict-accepted-start
+    part-predict-accepted-end
+    predict-accepted-requires
     same-length
     same-length-2
     returns-2)

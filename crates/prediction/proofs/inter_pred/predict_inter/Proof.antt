@@ -4,11 +4,11 @@ use mathlib.Core.List.{List}
 use Prim.Native.Nat.{ℕ}
 use borrow.Author.Needs.{needs}
 use lib.ListN.{length}
-use Rattle.samples.specs.Plane.{lent}
+use Rattle.planes.specs.Plane.{lent}
 use Rattle.samples.specs.Call.{Call, call, ref}
 use Rattle.samples.specs.declared.block_inter_pred.BlockShape.{BlockShape}
 use Rattle.samples.specs.declared.block_inter_pred.Stepping.{Stepping}
-use Rattle.samples.specs.declared.plane.PlaneGeom.{PlaneGeom}
+use Rattle.planes.specs.declared.plane.PlaneGeom.{PlaneGeom}
 use Rattle.prediction.specs.Predict.{Whole, source, whole, numberOf}
 use Rattle.prediction.proofs.Ready.{callWith, ready, painted-is, after-taken, after-refused, corner}
 use Rattle.prediction.proofs.inter_pred.predict_inter.Statement.{statement}

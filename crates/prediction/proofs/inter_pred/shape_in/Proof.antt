@@ -1,6 +1,6 @@
 -- `shape_in` meets its contract: each side is the part inside. Assumes nothing.
 use borrow.Author.Needs.{needs}
-use Rattle.kernels.proofs.Casts.{read-back}
+use Rattle.base.proofs.Casts.{read-back}
 use Rattle.prediction.proofs.inter_pred.shape_in.Statement.{statement}
 use Rattle.prediction.proofs.inter_pred.shape_in.Tie as tie
 

@@ -2,7 +2,7 @@
 use native.Mathlib.Omega.{arith}
 use mir.Syntax.{w32, w64}
 use Rattle.base.proofs.Lift.{start}
-use Rattle.kernels.proofs.Casts.{sum-fits, lift-casts, lift-gives}
+use Rattle.base.proofs.Casts.{sum-fits, lift-casts, lift-gives}
 use Rattle.samples.proofs.block_inter_pred.lift.Statement.{statement}
 use Rattle.samples.proofs.block_inter_pred.lift.Tie as tie
 

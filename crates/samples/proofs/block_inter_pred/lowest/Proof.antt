@@ -3,7 +3,7 @@ use mathlib.Core.Path.{_≡_, refl}
 use Prim.Native.Nat.{min}
 use native.Mathlib.Omega.{arith}
 use borrow.Author.Tests.{eq-eqb, ne-eqb}
-use Rattle.samples.specs.Lifted.{lowest}
+use Rattle.samples.specs.Single.{lowest}
 use Rattle.samples.proofs.block_inter_pred.lowest.Statement.{statement}
 use Rattle.samples.proofs.block_inter_pred.lowest.Tie as tie
 

@@ -8,7 +8,7 @@ use borrow.Author.Needs.{needs}
 use lib.Dec.{leb}
 use Rattle.base.specs.Number.{within}
 use Rattle.base.proofs.Tests.{and-both, within-both}
-use Rattle.samples.specs.Plane.{holds}
+use Rattle.planes.specs.Plane.{holds}
 use Rattle.samples.proofs.Accepted.{second-fails}
 use Rattle.samples.proofs.block_inter_pred.out_fits.Statement.{statement}
 use Rattle.samples.proofs.block_inter_pred.out_fits.Tie as tie

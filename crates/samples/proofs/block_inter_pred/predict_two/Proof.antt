@@ -8,13 +8,14 @@ use Rattle.base.specs.Position.{toN}
 use Rattle.base.proofs.Lift.{Start}
 use Rattle.base.proofs.Painted.{paint-same}
 use Rattle.samples.specs.Sample.{across}
-use Rattle.samples.specs.Plane.{lent, fits}
+use Rattle.planes.specs.Plane.{lent, fits}
 use Rattle.samples.specs.Call.{ref}
-use Rattle.kernels.specs.Kernel.{meanOf}
-use Rattle.samples.specs.Lifted.{meanWith}
+use Rattle.taps.specs.Kernel.{meanOf}
+use Rattle.passes.specs.Lifted.{meanWith}
 use Rattle.samples.proofs.Accepted.{Facts, legal-says}
+use Rattle.samples.proofs.Depths.{depth-top}
 use Rattle.samples.proofs.Bridge.{bridge}
-use Rattle.kernels.proofs.Casts.{read-back}
+use Rattle.base.proofs.Casts.{read-back}
 use Rattle.samples.proofs.block_inter_pred.predict_two.Statement.{statement}
 use Rattle.samples.proofs.block_inter_pred.predict_two.Tie as tie
 
@@ -69,7 +70,7 @@ block-mean-requires c κs =
     let ly = l2 .lift2 .ensures .1 in
     rw (ew, eh) (
       omega (arith, f .filter, f .w, f .h, f .across, f .down, lx, ly, ex, ey),
-      (omega (arith, f .width, f .height, s .pre .1), (s .pre .0 .bands, s .pre .1 .0)),
+      (omega (arith, f .width, f .height, s .pre .1), (s .pre .0 .bands, (s .pre .1 .0, rw (t .top .ensures) (depth-top (a .shape) (s .pre .0 .filter))))),
     )
 
 same-length : tie.Need-same-length

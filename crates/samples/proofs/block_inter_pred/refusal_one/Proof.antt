@@ -7,9 +7,9 @@ use borrow.Author.Tests.{not-true, not-false}
 use Rattle.base.specs.Number.{within}
 use Rattle.base.proofs.Lift.{Start}
 use Rattle.base.proofs.Tests.{and-both, within-both}
-use Rattle.samples.specs.Plane.{lent, sized, fits}
+use Rattle.planes.specs.Plane.{lent, sized, fits}
 use Rattle.samples.specs.Call.{ref, call, kind, starts, outFits}
-use Rattle.samples.specs.Lifted.{numberOne}
+use Rattle.samples.specs.Single.{numberOne}
 use Rattle.samples.proofs.Accepted.{at-block, at-filter, at-size, at-start, at-bands, at-room, at-end}
 use Rattle.samples.proofs.block_inter_pred.refusal_one.Statement.{statement}
 use Rattle.samples.proofs.block_inter_pred.refusal_one.Tie as tie

@@ -2,7 +2,7 @@
 use borrow.Author.Needs.{needs}
 use Rattle.base.specs.Number.{between}
 use Rattle.samples.specs.Call.{starts}
-use Rattle.kernels.proofs.Casts.{read-back}
+use Rattle.base.proofs.Casts.{read-back}
 use Rattle.samples.proofs.block_inter_pred.starts.Statement.{statement}
 use Rattle.samples.proofs.block_inter_pred.starts.Tie as tie
 

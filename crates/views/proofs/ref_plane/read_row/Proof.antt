@@ -12,7 +12,7 @@ use Rattle.views.proofs.Kit.{Contract, Triple, calls-at, Args, Vals, on
 use Rattle.views.proofs.Kit.{gave-ref, walkOf, goes-dropped, goes-gave-ref, Walks, ends-at, walked, walk-meets, yes, Lasts, ensured, lasts}
 use Rattle.views.proofs.Steps.{_▹_, without, aside, none, fresh, local-at}
 use Rattle.views.proofs.Kit.LL
-use Rattle.samples.specs.Plane.{ReadOutcome}
+use Rattle.planes.specs.Plane.{ReadOutcome}
 use Rattle.views.specs.Seen.{plane}
 use Rattle.views.specs.declared.ref_plane.RefPlane.{RefPlane}
 use Rattle.views.proofs.ref_plane.RefPlane as T

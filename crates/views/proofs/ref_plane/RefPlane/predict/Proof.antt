@@ -12,7 +12,7 @@ use Rattle.views.proofs.Kit.{stay-dropped, gave-slice, walkOf, goes-dro
 use Rattle.views.proofs.Kit.{ensured, lasts}
 use Rattle.views.proofs.Steps.{_▹_, without, aside, none, fresh, opened, doubled, local-at}
 use Rattle.views.proofs.Kit.LL
-use Rattle.samples.specs.Plane.{lent}
+use Rattle.planes.specs.Plane.{lent}
 use Rattle.samples.specs.Call.{call, ref, Outcome}
 use Rattle.views.specs.declared.ref_plane.RefPlane.{RefPlane}
 use Rattle.views.proofs.ref_plane.RefPlane as T
@@ -23,9 +23,9 @@ use Rattle.samples.proofs.block_inter_pred.BlockShape.Laws as BlockShape′
 use Rattle.samples.specs.declared.block_inter_pred.Stepping.{Stepping}
 use Rattle.samples.proofs.block_inter_pred.Stepping
 use Rattle.samples.proofs.block_inter_pred.Stepping.Laws as Stepping′
-use Rattle.samples.specs.declared.plane.PlaneGeom.{PlaneGeom}
-use Rattle.samples.proofs.plane.PlaneGeom
-use Rattle.samples.proofs.plane.PlaneGeom.Laws as PlaneGeom′
+use Rattle.planes.specs.declared.plane.PlaneGeom.{PlaneGeom}
+use Rattle.planes.proofs.plane.PlaneGeom
+use Rattle.planes.proofs.plane.PlaneGeom.Laws as PlaneGeom′
 use Rattle.samples.proofs.block_inter_predict as predict
 use Rattle.samples.proofs.block_inter_predict.Symbol as predict-def
 use Rattle.samples.proofs.block_inter_predict.Symbol.{name as #samples·block-inter-predict}

@@ -12,17 +12,17 @@ use Rattle.views.proofs.Kit.{stay-dropped, gave-ref, walkOf, goes-dropp
 use Rattle.views.proofs.Kit.{ensured, lasts}
 use Rattle.views.proofs.Steps.{_▹_, without, aside, none, fresh, opened, local-at}
 use Rattle.views.proofs.Kit.LL
-use Rattle.samples.specs.Plane.{lent, ReadOutcome}
+use Rattle.planes.specs.Plane.{lent, ReadOutcome}
 use Rattle.views.specs.declared.ref_plane.RefPlane.{RefPlane}
 use Rattle.views.proofs.ref_plane.RefPlane as T
 use Rattle.views.proofs.ref_plane.RefPlane.Laws as T′
-use Rattle.samples.specs.declared.plane.PlaneGeom.{PlaneGeom}
-use Rattle.samples.proofs.plane.PlaneGeom
-use Rattle.samples.proofs.plane.PlaneGeom.Laws as PlaneGeom′
-use Rattle.samples.proofs.row_read as read
-use Rattle.samples.proofs.row_read.Symbol as read-def
-use Rattle.samples.proofs.row_read.Symbol.{name as #samples·row-read}
-use Rattle.samples.proofs.row_read.Met as read-thm
+use Rattle.planes.specs.declared.plane.PlaneGeom.{PlaneGeom}
+use Rattle.planes.proofs.plane.PlaneGeom
+use Rattle.planes.proofs.plane.PlaneGeom.Laws as PlaneGeom′
+use Rattle.planes.proofs.row_read as read
+use Rattle.planes.proofs.row_read.Symbol as read-def
+use Rattle.planes.proofs.row_read.Symbol.{name as #planes·row-read}
+use Rattle.planes.proofs.row_read.Met as read-thm
 use Rattle.views.proofs.ref_plane.RefPlane.row as me
 use Rattle.views.proofs.ref_plane.RefPlane.row.Key.{name as #views·ref-plane·RefPlane·row}
 use Rattle.views.proofs.ref_plane.RefPlane.row.Statement as stated
@@ -111,7 +111,7 @@ module _ {M : Type 1} (𝓤 : URA M) (H : Heap 𝓤) (A : Atoms 𝓤) (W : Given
         .0) ▹ tt) (tt ▹ tt ▹ tt ▹ tt)) $ says ! e $ move ! (2 ∷ []) $ frame ! $ nothing ! $ move ! (1 ∷ 0 ∷ []) $ fjoin ! $ none ! $ none ! $ done !
 
     -- the code, statement by statement
-    module _ (C : Calls 𝓤 H) (Λ : Loops 𝓤 H) (fm : FmC 𝓤 H (W .laws) C) (known-read : Triple 𝓤 (C #samples·row-read) (C-read 𝓤 H A mem run)) where
+    module _ (C : Calls 𝓤 H) (Λ : Loops 𝓤 H) (fm : FmC 𝓤 H (W .laws) C) (known-read : Triple 𝓤 (C #planes·row-read) (C-read 𝓤 H A mem run)) where
       walk : ent 𝓤 entry (WpFn 𝓤 H C Λ code.function machine Post)
       walk =
           let self-typed = (LL.lawful (D κs) (L κs) 𝓤 H A W) .typed self _ self-is .0 .1 in
@@ -162,8 +162,8 @@ module _ {M : Type 1} (𝓤 : URA M) (H : Heap 𝓤) (A : Atoms 𝓤) (W : Given
 -- the walk at every choice of lifetimes and arguments, and from it the function's statement
 module _ {M : Type 1} (𝓤 : URA M) (H : Heap 𝓤) (A : Atoms 𝓤) (W : Given 𝓤 H A) (mem : Memory → SProp 𝓤) (run : Routine → Fun 𝓤) where
   me-walks :
-      (C : Calls 𝓤 H) (Λ : Loops 𝓤 H) → FmC 𝓤 H (W .laws) C → Triple 𝓤 (C #samples·row-read) (C-read 𝓤 H A mem run) → Walks 𝓤 H A me.ended stayed (WpFn
-      𝓤 H C Λ code.function) (me.clauses 𝓤 H A mem run)
+      (C : Calls 𝓤 H) (Λ : Loops 𝓤 H) → FmC 𝓤 H (W .laws) C → Triple 𝓤 (C #planes·row-read) (C-read 𝓤 H A mem run) → Walks 𝓤 H A me.ended stayed (WpFn 𝓤
+      H C Λ code.function) (me.clauses 𝓤 H A mem run)
   me-walks C Λ fm known-read =
       walked 𝓤 H A me.ended stayed (me.clauses 𝓤 H A mem run) (WpFn 𝓤 H C Λ code.function) (λ κs. (LL.vals (D κs) (L κs) ▹ uint-vals w64 ▹ ptr-vals ▹
       tt)) (λ κs. (LL.tells (D κs) (L κs) ▹ uint-tells w64 ▹ mut-tells (named 1) (κs .1 .0) u32 ▹ tt)) (λ κs qs bounds a g are. via 𝓤 _ (fst∗ 𝓤 _ (emp
@@ -172,7 +172,7 @@ module _ {M : Type 1} (𝓤 : URA M) (H : Heap 𝓤) (A : Atoms 𝓤) (W : Given
 
 me-meets :
     {M : Type 1} (𝓤 : URA M) (H : Heap 𝓤) (A : Atoms 𝓤) (W : Given 𝓤 H A) (mem : Memory → SProp 𝓤) (run : Routine → Fun 𝓤) (𝓣 : Tables 𝓤 H) → Triple 𝓤
-    (𝓣 .C #samples·row-read) (C-read 𝓤 H A mem run) → Meets 𝓤 H A me.signature (WpFn 𝓤 H (𝓣 .C) (𝓣 .Λ) code.function) (me.spec 𝓤 H A mem run)
+    (𝓣 .C #planes·row-read) (C-read 𝓤 H A mem run) → Meets 𝓤 H A me.signature (WpFn 𝓤 H (𝓣 .C) (𝓣 .Λ) code.function) (me.spec 𝓤 H A mem run)
 me-meets 𝓤 H A W mem run 𝓣 known-read =
     walk-meets 𝓤 H A me.ended stayed W (goes-dropped 𝓤 H A W 2 (plain (λ κs. T.the-row (α κs))) yes (λ κs x f. refl) ▹ goes-dropped 𝓤 H A W 2 (plain (λ
     κs. usize)) yes (λ κs x f. refl) ▹ goes-gave-ref 𝓤 H A W 2 1 tt (plain (λ _. u32)) ▹ tt) (me.clauses 𝓤 H A mem run) (WpFn 𝓤 H (𝓣 .C) (𝓣 .Λ)
@@ -184,5 +184,5 @@ row-spec 𝓤 H 𝓜 𝓖 𝓡 =
     entered 𝓤 H (tripleOf 𝓤 H (𝓖 .A) me.signature (me.spec 𝓤 H (𝓖 .A) (𝓜 .mem) (𝓡 .run)))
     (tables 𝓤 H 𝓜 𝓡 code.env .C) (tables 𝓤 H 𝓜 𝓡 code.env .Λ) #views·ref-plane·RefPlane·row code.function (code.unfolded 𝓤 H 𝓜 𝓡)
     (me-meets 𝓤 H (𝓖 .A) (givenOf 𝓤 H 𝓜 𝓖) (𝓜 .mem) (𝓡 .run) (tablesOf 𝓤 H 𝓜 (tables 𝓤 H 𝓜 𝓡 code.env))
-    (cited 𝓤 H (C-read 𝓤 H (𝓖 .A) (𝓜 .mem) (𝓡 .run)) 𝓜 𝓡 code.env #samples·row-read read-def.routine
-    code.calls-samples·row-read (read-thm.met 𝓤 H 𝓜 𝓖 𝓡)))
+    (cited 𝓤 H (C-read 𝓤 H (𝓖 .A) (𝓜 .mem) (𝓡 .run)) 𝓜 𝓡 code.env #planes·row-read read-def.routine
+    code.calls-planes·row-read (read-thm.met 𝓤 H 𝓜 𝓖 𝓡)))

@@ -1,4 +1,0 @@
-pub mod Taps
-pub mod Filter
-pub mod Kernel
-pub mod Copy

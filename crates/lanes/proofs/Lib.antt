@@ -1,0 +1,3 @@
+pub mod HighLow
+pub mod Low
+pub mod Tops

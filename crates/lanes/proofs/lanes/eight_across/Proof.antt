@@ -1,0 +1,191 @@
+-- `lanes::lanes::eight_across` meets its contract: eight writes of eight results. Assumes nothing.
+use Rattle.taps.proofs.Runs.{eight-written}
+use Rattle.taps.specs.Kernel.{lowRan}
+use borrow.Author.Needs.{needs}
+use lib.ListN.{length-set}
+use mathlib.Core.Path.{refl}
+use native.Mathlib.Nat.{add-zero}
+use native.Mathlib.Omega.{arith}
+use Rattle.lanes.proofs.lanes.eight_across.Statement.{statement}
+use Rattle.lanes.proofs.lanes.eight_across.Tie as tie
+
+window-across-requires : tie.Need-window-across-requires
+window-across-requires c κs = search needs
+
+add-window-across : tie.Need-add-window-across
+add-window-across c = search needs
+
+window-across-requires-2 : tie.Need-window-across-requires-2
+window-across-requires-2 c κs = search needs
+
+add-window-across-2 : tie.Need-add-window-across-2
+add-window-across-2 c = search needs
+
+window-across-requires-3 : tie.Need-window-across-requires-3
+window-across-requires-3 c κs = search needs
+
+add-window-across-3 : tie.Need-add-window-across-3
+add-window-across-3 c = search needs
+
+window-across-requires-4 : tie.Need-window-across-requires-4
+window-across-requires-4 c κs = search needs
+
+add-window-across-4 : tie.Need-add-window-across-4
+add-window-across-4 c = search needs
+
+window-across-requires-5 : tie.Need-window-across-requires-5
+window-across-requires-5 c κs = search needs
+
+add-window-across-5 : tie.Need-add-window-across-5
+add-window-across-5 c = search needs
+
+window-across-requires-6 : tie.Need-window-across-requires-6
+window-across-requires-6 c κs = search needs
+
+add-window-across-6 : tie.Need-add-window-across-6
+add-window-across-6 c = search needs
+
+window-across-requires-7 : tie.Need-window-across-requires-7
+window-across-requires-7 c κs = search needs
+
+add-window-across-7 : tie.Need-add-window-across-7
+add-window-across-7 c = search needs
+
+window-across-requires-8 : tie.Need-window-across-requires-8
+window-across-requires-8 c κs = search needs
+
+mul-out : tie.Need-mul-out
+mul-out c = search needs
+
+slice-write-out : tie.Need-slice-write-out
+slice-write-out c = search needs
+
+add-out : tie.Need-add-out
+add-out c = search needs
+
+mul-out-2 : tie.Need-mul-out-2
+mul-out-2 c = search needs
+
+slice-write-out-2 : tie.Need-slice-write-out-2
+slice-write-out-2 c = rw length-set (omega arith)
+
+add-out-2 : tie.Need-add-out-2
+add-out-2 c = search needs
+
+mul-out-3 : tie.Need-mul-out-3
+mul-out-3 c = search needs
+
+slice-write-out-3 : tie.Need-slice-write-out-3
+slice-write-out-3 c = rw (length-set, length-set) (omega arith)
+
+add-out-3 : tie.Need-add-out-3
+add-out-3 c = search needs
+
+mul-out-4 : tie.Need-mul-out-4
+mul-out-4 c = search needs
+
+slice-write-out-4 : tie.Need-slice-write-out-4
+slice-write-out-4 c = rw (length-set, length-set, length-set) (omega arith)
+
+add-out-4 : tie.Need-add-out-4
+add-out-4 c = search needs
+
+mul-out-5 : tie.Need-mul-out-5
+mul-out-5 c = search needs
+
+slice-write-out-5 : tie.Need-slice-write-out-5
+slice-write-out-5 c = rw (length-set, length-set, length-set, length-set) (omega arith)
+
+add-out-5 : tie.Need-add-out-5
+add-out-5 c = search needs
+
+mul-out-6 : tie.Need-mul-out-6
+mul-out-6 c = search needs
+
+slice-write-out-6 : tie.Need-slice-write-out-6
+slice-write-out-6 c = rw (length-set, length-set, length-set, length-set, length-set) (omega arith)
+
+add-out-6 : tie.Need-add-out-6
+add-out-6 c = search needs
+
+mul-out-7 : tie.Need-mul-out-7
+mul-out-7 c = search needs
+
+slice-write-out-7 : tie.Need-slice-write-out-7
+slice-write-out-7 c = rw (length-set, length-set, length-set, length-set, length-set, length-set) (omega arith)
+
+add-out-7 : tie.Need-add-out-7
+add-out-7 c = search needs
+
+mul-out-8 : tie.Need-mul-out-8
+mul-out-8 c = search needs
+
+slice-write-out-8 : tie.Need-slice-write-out-8
+slice-write-out-8 c = rw (length-set, length-set, length-set, length-set, length-set, length-set, length-set) (omega arith)
+
+same-length : tie.Need-same-length
+same-length c = rw (length-set, length-set, length-set, length-set, length-set, length-set, length-set, length-set) refl
+
+returns : tie.Need-returns
+unfolding lowRan
+returns c =
+    let w7 = c .before in
+    let w4 = w7 .before .before .before in
+    let w1 = w4 .before .before .before in
+    let a = w1 .before .before .before .args in
+    rw (
+      w1 .window-across .ensures,
+      w4 .before .before .window-across2 .ensures,
+      w4 .before .window-across3 .ensures,
+      w4 .window-across4 .ensures,
+      w7 .before .before .window-across5 .ensures,
+      w7 .before .window-across6 .ensures,
+      w7 .window-across7 .ensures,
+      c .window-across8 .ensures,
+    )
+    (rw add-zero at (eight-written (a .out .now) (a .at) (lowRan (a .p) (a .l .now) 1 (a .s))))
+
+pub eight-across-spec : {M : Type 1} → statement M
+eight-across-spec =
+    tie.close
+    (tie.spec
+    window-across-requires
+    add-window-across
+    window-across-requires-2
+    add-window-across-2
+    window-across-requires-3
+    add-window-across-3
+    window-across-requires-4
+    add-window-across-4
+    window-across-requires-5
+    add-window-across-5
+    window-across-requires-6
+    add-window-across-6
+    window-across-requires-7
+    add-window-across-7
+    window-across-requires-8
+    mul-out
+    slice-write-out
+    add-out
+    mul-out-2
+    slice-write-out-2
+    add-out-2
+    mul-out-3
+    slice-write-out-3
+    add-out-3
+    mul-out-4
+    slice-write-out-4
+    add-out-4
+    mul-out-5
+    slice-write-out-5
+    add-out-5
+    mul-out-6
+    slice-write-out-6
+    add-out-6
+    mul-out-7
+    slice-write-out-7
+    add-out-7
+    mul-out-8
+    slice-write-out-8
+    same-length
+    returns)

@@ -1,0 +1,5 @@
+// Rows of results of one phase, in 16-bit lanes. Only `kernels` and `samples` call it.
+mod lanes;
+
+pub use lanes::rows_across;
+pub use lanes::rows_down;

@@ -1,0 +1,22 @@
+-- `passes::passes::inside` meets its contract. Assumes nothing.
+use mathlib.Core.Path.{refl}
+use native.Mathlib.Omega.{arith}
+use borrow.Author.Tests.{lt-leb, le-leb}
+use Rattle.passes.specs.Lifted.{inside}
+use borrow.Author.Needs.{needs}
+use Rattle.passes.proofs.passes.inside.Statement.{statement}
+use Rattle.passes.proofs.passes.inside.Tie as tie
+
+returns : tie.Need-returns
+unfolding inside
+returns c = let s = c .before in rw (lt-leb 200003 (s .args .b) (omega arith)) refl
+
+add-result : tie.Need-add-result
+add-result c = search needs
+
+returns-2 : tie.Need-returns-2
+unfolding inside
+returns-2 c = let s = c .before in rw (le-leb 200003 (s .args .b) (omega arith)) refl
+
+pub inside-spec : {M : Type 1} → statement M
+inside-spec = tie.close (tie.spec returns add-result returns-2)

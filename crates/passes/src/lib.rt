@@ -1,0 +1,6 @@
+// Both passes over a block. Only `samples` calls it.
+mod passes;
+
+pub use passes::block;
+pub use passes::block_mean;
+pub use passes::pass_copied;

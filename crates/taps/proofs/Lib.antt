@@ -1,0 +1,4 @@
+pub mod Filtered
+pub mod Loops
+pub mod Runs
+pub mod TapRules

@@ -1,0 +1,79 @@
+-- `taps::plain::row_clipped` meets its contract. The loop keeps up that the first c samples are written. Assumes nothing.
+use mathlib.Core.Path.{_≡_}
+use Prim.Native.Nat.{_-_, _≤_}
+use native.Mathlib.Omega.{arith}
+use borrow.Author.Needs.{needs}
+use Rattle.taps.specs.Kernel.{clipped}
+use Rattle.taps.proofs.Loops.{Filling, fill-none, fill-turn}
+use Rattle.taps.proofs.plain.row_clipped.Statement.{statement}
+use Rattle.taps.proofs.plain.row_clipped.Tie as tie
+
+abbrev Inv-loop : tie.InvT-loop
+Inv-loop l b w max out₀ at c₀ out c = (c ≤ w) × Filling out₀ at c (clipped max l b) out
+
+abbrev μ-loop : tie.MeasureT-loop
+μ-loop l b w max out₀ at c₀ out c = w - c
+
+loop-holds : tie.Need-loop-holds Inv-loop μ-loop
+loop-holds c = (omega arith, fill-none _ _ _)
+
+add-o : tie.Need-add-o Inv-loop μ-loop
+add-o c = omega arith
+
+add-s : tie.Need-add-s Inv-loop μ-loop
+add-s c = omega arith
+
+mul-lesser : tie.Need-mul-lesser Inv-loop μ-loop
+mul-lesser c = omega arith
+
+shared-slice-read-lesser : tie.Need-shared-slice-read-lesser Inv-loop μ-loop
+shared-slice-read-lesser c = omega arith
+
+lesser-requires : tie.Need-lesser-requires Inv-loop μ-loop
+lesser-requires c κs = search needs
+
+mul-out : tie.Need-mul-out Inv-loop μ-loop
+mul-out c = omega arith
+
+slice-write-out : tie.Need-slice-write-out Inv-loop μ-loop
+slice-write-out c = omega arith
+
+add-c : tie.Need-add-c Inv-loop μ-loop
+add-c c = omega arith
+
+loop-less : tie.Need-loop-less Inv-loop μ-loop
+loop-less c = omega arith
+
+loop-again : tie.Need-loop-again Inv-loop μ-loop
+unfolding clipped
+loop-again c =
+    let l = c .before .before .before .loop in (
+      omega arith,
+      fill-turn _ (l .inv .1) (c .lesser .ensures),
+    )
+
+same-length : tie.Need-same-length Inv-loop μ-loop
+same-length c = c .before .loop .inv .1 .long
+
+returns : tie.Need-returns Inv-loop μ-loop
+returns c = let l = c .before in let e : l .loop .c ≡ l .before .before .before .args .w = omega arith in rw e at (l .loop .inv .1 .is)
+
+pub row-clipped-spec : {M : Type 1} → statement M
+row-clipped-spec =
+    tie.close
+    (tie.spec
+    Inv-loop
+    μ-loop
+    loop-holds
+    add-o
+    add-s
+    mul-lesser
+    shared-slice-read-lesser
+    lesser-requires
+    mul-out
+    slice-write-out
+    add-c
+    loop-less
+    loop-again
+    same-length
+    returns)

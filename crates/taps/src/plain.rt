@@ -1,0 +1,45 @@
+// What rows of results share: the lesser of two numbers, a run copied, a run held to the depth.
+ghost use Rattle.base.specs.Paint.{fill};
+ghost use Rattle.taps.specs.Kernel.{clipped, onward};
+ghost use mathlib.Core.Path.{_≡_};
+ghost use Prim.Native.Nat.{_+_, _≤_, min};
+ghost use lib.ListN.{length};
+
+pub fn lesser(a: u16, b: u16) -> u16
+    ensures { λ r. ⌜ r ≡ min a b ⌝ }
+{
+    if a < b { a } else { b }
+}
+
+pub fn fewer(a: usize, b: usize) -> usize
+    ensures { λ r. ⌜ r ≡ min a b ⌝ }
+{
+    if a < b { a } else { b }
+}
+
+pub fn run_copied(row: &[u16], s: usize, n: usize, line: &mut [u16], at: usize)
+    requires { ⌜ (s + n ≤ length (now row)) × (at + n ≤ length (now line)) ⌝ }
+    ensures { λ _. ⌜ now (line .exit) ≡ fill (now (line .entry)) at n (onward (now (row .entry)) s) ⌝ }
+{
+    let mut c = 0;
+    while c < n {
+        let o = at + c;
+        let i = s + c;
+        line[o] = row[i];
+        c += 1;
+    }
+}
+
+// A row of samples, each held to the depth: what phase 0 gives.
+pub fn row_clipped(l: &[u16], b: usize, w: usize, max: u16, out: &mut [u16], at: usize)
+    requires { ⌜ (b + w ≤ length (now l)) × (at + w ≤ length (now out)) ⌝ }
+    ensures { λ _. ⌜ now (out .exit) ≡ fill (now (out .entry)) at w (clipped max (now (l .entry)) b) ⌝ }
+{
+    let mut c = 0;
+    while c < w {
+        let o = at + c;
+        let s = b + c;
+        out[o] = lesser(l[s], max);
+        c += 1;
+    }
+}
