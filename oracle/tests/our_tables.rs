@@ -94,13 +94,12 @@ fn mode_counters_and_contexts() {
 
 #[test]
 fn taps() {
-    let specs = source("crates/kernels/specs/Taps.antt");
+    let specs = source("crates/taps/specs/Taps.antt");
     assert_eq!(
         signed(part(&specs, "regular =", "unfoldable pub filters")),
         tables::taps()
     );
-    assert_eq!(
-        constant("crates/kernels/src/taps.rt", "SUBPEL_FILTERS"),
-        tables::taps()
-    );
+    let filters = ["REGULAR", "SMOOTH", "SHARP", "BILINEAR"];
+    let of_code = filters.map(|name| constant("crates/taps/src/taps.rt", name));
+    assert_eq!(of_code.concat(), tables::taps());
 }
