@@ -1,10 +1,10 @@
-// Rows of copies: what whole positions in steps of 16 give, each sample held to the depth; and rows averaged into the output.
+// Rows of copies: what whole positions in steps of 16 give, each sample held to the depth.
 // The samples of four or eight are all read before one is written, so that the machine moves them together.
 ghost use mathlib.Core.Path.{_≡_};
-ghost use Prim.Native.Nat.{_+_, _-_, _/_, _%_, _≤_, _<_, min};
+ghost use Prim.Native.Nat.{_+_, _-_, _%_, _≤_, _<_, min};
 ghost use lib.ListN.{length};
 ghost use Rattle.base.specs.Paint.{fill, paint};
-ghost use Rattle.taps.specs.Kernel.{alike, clipped, listed, meanOf, onward};
+ghost use Rattle.taps.specs.Kernel.{alike, clipped, listed};
 ghost use Rattle.copies.specs.Copy.{Rows, clippedRows, threeRuns, still};
 use taps::lesser;
 use taps::row_clipped;
@@ -156,24 +156,4 @@ pub fn row_held(row: &[u16], last: usize, b: usize, w: usize, max: u16, out: &mu
     let inside = smaller(beyond(last + 1, d), w - before);
     let after = beyond(w, before + inside);
     row_runs(row, last, d, before, inside, after, max, out, at)
-}
-
-fn average(a: u16, b: u16) -> u16
-    ensures { λ r. ⌜ r ≡ (a + b + 1) / 2 ⌝ }
-{
-    ((a as u32 + b as u32 + 1) / 2) as u16
-}
-
-// The rounded means of a row of the output and of w numbers of a list.
-pub fn row_averaged(l: &[u16], b: usize, w: usize, out: &mut [u16], at: usize)
-    requires { ⌜ (b + w ≤ length (now l)) × (at + w ≤ length (now out)) ⌝ }
-    ensures { λ _. ⌜ now (out .exit) ≡ fill (now (out .entry)) at w (meanOf (now (out .entry)) at (onward (now (l .entry)) b)) ⌝ }
-{
-    let mut c = 0;
-    while c < w {
-        let o = at + c;
-        let s = b + c;
-        out[o] = average(out[o], l[s]);
-        c += 1;
-    }
 }

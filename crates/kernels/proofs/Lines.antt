@@ -3,14 +3,14 @@
 use mathlib.Core.Path.{_≡_, refl, sym, ap, _∙_}
 use mathlib.Core.List.{List}
 use Prim.Native.Nat.{ℕ, _+_, _-_, _*_, _/_, _%_, _<_, _≤_, min}
-use native.Mathlib.Nat.{mul-le-mul-left, zero-add, zero-mul, add-zero}
+use native.Mathlib.Nat.{mul-le-mul-left, zero-mul, add-zero}
 use native.Mathlib.Omega.{arith}
 use lib.IntN.{ℤ}
 use lib.ListN.{length, getD}
 use Rattle.base.specs.Paint.{fill}
 use Rattle.base.proofs.Painted.{fill-same, fill-at}
 use Rattle.taps.specs.Taps.{tap}
-use Rattle.taps.specs.Kernel.{apart, ran, ranRows, stepped, clipped, seat, level, levels, heldFrom, listed, meanOf}
+use Rattle.taps.specs.Kernel.{apart, ran, ranRows, stepped, clipped, seat, level, levels, heldFrom, onward, meanOf}
 use Rattle.taps.proofs.Filtered.{filtered-same, filtered-whole}
 
 -- one phase, in steps of 16
@@ -61,10 +61,6 @@ down-whole max filter room b c f4 =
 
 -- a row whose numbers are taken from a line that was filled
 pub mean-filled : (out line : List ℕ) (at w : ℕ) (f : ℕ → ℕ) (m : List ℕ) → w ≤ length line
-    → fill m at w (meanOf out at (listed (fill line 0 w f))) ≡ fill m at w (meanOf out at f)
-unfolding meanOf
-mean-filled out line at w f m long =
-    fill-same m at w _ _
-    (λ c cw.
-    let e : getD (fill line 0 w f) c 0 ≡ f c = rw zero-add at (fill-at line 0 w f (omega arith) c cw) in
-    rw e)
+    → fill m at w (meanOf out at (onward (fill line 0 w f) 0)) ≡ fill m at w (meanOf out at f)
+unfolding meanOf onward
+mean-filled out line at w f m long = fill-same m at w _ _ (λ c cw. rw (fill-at line 0 w f (omega arith) c cw))

@@ -1,12 +1,13 @@
 // Rows of vertical results, plain and averaged into the output.
 ghost use mathlib.Core.Path.{_≡_};
-ghost use Prim.Native.Nat.{_+_, _/_, _≤_, _<_};
+ghost use Prim.Native.Nat.{_+_, _≤_, _<_};
 ghost use lib.ListN.{length};
 ghost use Rattle.base.specs.Paint.{fill};
 ghost use Rattle.taps.specs.Taps.{tap};
-ghost use Rattle.taps.specs.Kernel.{IsTaps, Below, ran, listed, meanOf};
+ghost use Rattle.taps.specs.Kernel.{IsTaps, Below, ran, meanOf};
 use lanes::rows_down;
 use taps::Taps;
+use taps::row_averaged;
 use taps::row_clipped;
 
 // A row of vertical results: phase 0 is the fourth of its eight rows.
@@ -22,25 +23,6 @@ pub fn row_down(p: Taps, room: &[u16], b: usize, w: usize, max: u16, out: &mut [
         return;
     }
     rows_down(room, b, p, w, max, 1, out, at, 0)
-}
-
-fn mean(a: u16, b: u16) -> u16
-    ensures { λ r. ⌜ r ≡ (a + b + 1) / 2 ⌝ }
-{
-    ((a as u32 + b as u32 + 1) / 2) as u16
-}
-
-// The rounded means of a row of the output and of the first w numbers of a line.
-fn row_mean(line: &[u16], w: usize, out: &mut [u16], at: usize)
-    requires { ⌜ (w ≤ length (now line)) × (at + w ≤ length (now out)) ⌝ }
-    ensures { λ _. ⌜ now (out .exit) ≡ fill (now (out .entry)) at w (meanOf (now (out .entry)) at (listed (now (line .entry)))) ⌝ }
-{
-    let mut c = 0;
-    while c < w {
-        let o = at + c;
-        out[o] = mean(out[o], line[c]);
-        c += 1;
-    }
 }
 
 // A row of vertical results, averaged with what stands in the output.
@@ -62,5 +44,5 @@ pub fn row_down_mean(
 {
     let mut line = [0u16; 64];
     row_down(p, room, b, w, max, &mut line, 0);
-    row_mean(&line, w, out, at)
+    row_averaged(&line, 0, w, out, at)
 }

@@ -3,4 +3,3 @@ mod passes;
 
 pub use passes::block;
 pub use passes::block_mean;
-pub use passes::pass_copied;

@@ -11,7 +11,6 @@ ghost use Rattle.taps.specs.Kernel.{IsTaps};
 ghost use Rattle.passes.specs.Lifted as Lifted;
 ghost use Rattle.passes.specs.Lifted.{acrossFrom, copyFrom, downAt, downEven, blockAt, meanWith, roomAt, HeldRoom, HeldLines};
 ghost use Rattle.planes.specs.Plane.{view};
-use copies::row_averaged;
 use copies::row_held;
 use copies::rows_copied;
 use kernels::gather;
@@ -24,6 +23,7 @@ use lanes::rows_down;
 use planes::plane_row;
 use taps::Taps;
 use taps::fewer;
+use taps::row_averaged;
 use taps::subpel_filters;
 use taps::taps_at;
 use taps::taps_of;
@@ -133,7 +133,7 @@ fn row_in(e: usize, k: usize) -> usize
 }
 
 // Rows of copies, straight from the band that has them all where nothing has to be held.
-pub fn pass_copied<'a>(
+fn pass_copied<'a>(
     upper: &'a [u16],
     lower: &'a [u16],
     pw: usize,

@@ -4,6 +4,7 @@ mod taps;
 
 pub use plain::fewer;
 pub use plain::lesser;
+pub use plain::row_averaged;
 pub use plain::row_clipped;
 pub use plain::run_copied;
 pub use taps::Taps;

@@ -1,8 +1,8 @@
-// What rows of results share: the lesser of two numbers, a run copied, a run held to the depth.
+// What rows of results share: the lesser of two numbers; a run copied, held to the depth, averaged into the output.
 ghost use Rattle.base.specs.Paint.{fill};
-ghost use Rattle.taps.specs.Kernel.{clipped, onward};
+ghost use Rattle.taps.specs.Kernel.{clipped, onward, meanOf};
 ghost use mathlib.Core.Path.{_≡_};
-ghost use Prim.Native.Nat.{_+_, _≤_, min};
+ghost use Prim.Native.Nat.{_+_, _/_, _≤_, min};
 ghost use lib.ListN.{length};
 
 pub fn lesser(a: u16, b: u16) -> u16
@@ -40,6 +40,26 @@ pub fn row_clipped(l: &[u16], b: usize, w: usize, max: u16, out: &mut [u16], at:
         let o = at + c;
         let s = b + c;
         out[o] = lesser(l[s], max);
+        c += 1;
+    }
+}
+
+fn average(a: u16, b: u16) -> u16
+    ensures { λ r. ⌜ r ≡ (a + b + 1) / 2 ⌝ }
+{
+    ((a as u32 + b as u32 + 1) / 2) as u16
+}
+
+// The rounded means of a row of the output and of w numbers of a list.
+pub fn row_averaged(l: &[u16], b: usize, w: usize, out: &mut [u16], at: usize)
+    requires { ⌜ (b + w ≤ length (now l)) × (at + w ≤ length (now out)) ⌝ }
+    ensures { λ _. ⌜ now (out .exit) ≡ fill (now (out .entry)) at w (meanOf (now (out .entry)) at (onward (now (l .entry)) b)) ⌝ }
+{
+    let mut c = 0;
+    while c < w {
+        let o = at + c;
+        let s = b + c;
+        out[o] = average(out[o], l[s]);
         c += 1;
     }
 }

@@ -12,11 +12,11 @@ slice-aggregate-row-down c = search needs
 row-down-requires : tie.Need-row-down-requires
 row-down-requires c κs = let s = c .before .before .before in (s .pre .0, (omega (arith, s .pre .1 .0), s .pre .1 .1))
 
-slice-aggregate-row-mean : tie.Need-slice-aggregate-row-mean
-slice-aggregate-row-mean c = search needs
+slice-aggregate-row-averaged : tie.Need-slice-aggregate-row-averaged
+slice-aggregate-row-averaged c = search needs
 
-row-mean-requires : tie.Need-row-mean-requires
-row-mean-requires c κs = search needs
+row-averaged-requires : tie.Need-row-averaged-requires
+row-averaged-requires c κs = search needs
 
 same-length : tie.Need-same-length
 same-length c = search needs
@@ -29,7 +29,7 @@ returns c =
     let s1 = d .before .before .before in
     let s = s1 .before in
     let a = s .args in
-    rw (d .row-down .ensures) at (r .row-mean .ensures)
+    rw (d .row-down .ensures) at (r .row-averaged .ensures)
     ∙ mean-filled (a .out .now) _ (a .at) (a .w) _ (a .out .now) (omega (arith, s .pre .1 .0))
 
 pub row-down-mean-spec : {M : Type 1} → statement M
@@ -38,7 +38,7 @@ row-down-mean-spec =
     (tie.spec
     slice-aggregate-row-down
     row-down-requires
-    slice-aggregate-row-mean
-    row-mean-requires
+    slice-aggregate-row-averaged
+    row-averaged-requires
     same-length
     returns)
