@@ -1,6 +1,6 @@
 -- `kernels::rows::eight_moved` meets its contract. Assumes nothing.
 -- What the places ask is proved once, at the entry and for any of the eight, since a search at each place is dear.
-use mathlib.Core.Path.{_≡_, refl}
+use mathlib.Core.Path.{_≡_, refl, _∙_}
 use mathlib.Core.List.{List}
 use Prim.Native.Nat.{ℕ, _+_, _*_, _<_}
 use mir.Syntax.{w64}
@@ -41,12 +41,61 @@ first-in e = omega (arith, e .pre)
 first-mul : (e : tie.Start) → Fits w64 (e .args .at * 2)
 first-mul e = omega (arith, first-in e, e .good)
 
-moved : (l : List ℕ) (at : ℕ) (row : List ℕ) (s : ℕ)
-    → set (set (set (set (set (set (set (set l at (getD row s 0)) (at + 1) (getD row (s + 1) 0)) (at + 2) (getD row (s + 2) 0)) (at + 3)
-    (getD row (s + 3) 0)) (at + 4) (getD row (s + 4) 0)) (at + 5) (getD row (s + 5) 0)) (at + 6) (getD row (s + 6) 0)) (at + 7) (getD row (s + 7) 0)
-    ≡ fill l at 8 (onward row s)
+-- the line after its first k writes, and its length, which each write keeps
+abbrev wrote-1 : List ℕ → ℕ → List ℕ → ℕ → List ℕ
+wrote-1 l at row s = set l at (getD row s 0)
+
+abbrev wrote-2 : List ℕ → ℕ → List ℕ → ℕ → List ℕ
+wrote-2 l at row s = set (wrote-1 l at row s) (at + 1) (getD row (s + 1) 0)
+
+abbrev wrote-3 : List ℕ → ℕ → List ℕ → ℕ → List ℕ
+wrote-3 l at row s = set (wrote-2 l at row s) (at + 2) (getD row (s + 2) 0)
+
+abbrev wrote-4 : List ℕ → ℕ → List ℕ → ℕ → List ℕ
+wrote-4 l at row s = set (wrote-3 l at row s) (at + 3) (getD row (s + 3) 0)
+
+abbrev wrote-5 : List ℕ → ℕ → List ℕ → ℕ → List ℕ
+wrote-5 l at row s = set (wrote-4 l at row s) (at + 4) (getD row (s + 4) 0)
+
+abbrev wrote-6 : List ℕ → ℕ → List ℕ → ℕ → List ℕ
+wrote-6 l at row s = set (wrote-5 l at row s) (at + 5) (getD row (s + 5) 0)
+
+abbrev wrote-7 : List ℕ → ℕ → List ℕ → ℕ → List ℕ
+wrote-7 l at row s = set (wrote-6 l at row s) (at + 6) (getD row (s + 6) 0)
+
+abbrev wrote-8 : List ℕ → ℕ → List ℕ → ℕ → List ℕ
+wrote-8 l at row s = set (wrote-7 l at row s) (at + 7) (getD row (s + 7) 0)
+
+long-1 : (l : List ℕ) (at : ℕ) (row : List ℕ) (s : ℕ) → length (wrote-1 l at row s) ≡ length l
+long-1 l at row s = length-set l _ _
+
+long-2 : (l : List ℕ) (at : ℕ) (row : List ℕ) (s : ℕ) → length (wrote-2 l at row s) ≡ length l
+long-2 l at row s = length-set (wrote-1 l at row s) _ _ ∙ long-1 l at row s
+
+long-3 : (l : List ℕ) (at : ℕ) (row : List ℕ) (s : ℕ) → length (wrote-3 l at row s) ≡ length l
+long-3 l at row s = length-set (wrote-2 l at row s) _ _ ∙ long-2 l at row s
+
+long-4 : (l : List ℕ) (at : ℕ) (row : List ℕ) (s : ℕ) → length (wrote-4 l at row s) ≡ length l
+long-4 l at row s = length-set (wrote-3 l at row s) _ _ ∙ long-3 l at row s
+
+long-5 : (l : List ℕ) (at : ℕ) (row : List ℕ) (s : ℕ) → length (wrote-5 l at row s) ≡ length l
+long-5 l at row s = length-set (wrote-4 l at row s) _ _ ∙ long-4 l at row s
+
+long-6 : (l : List ℕ) (at : ℕ) (row : List ℕ) (s : ℕ) → length (wrote-6 l at row s) ≡ length l
+long-6 l at row s = length-set (wrote-5 l at row s) _ _ ∙ long-5 l at row s
+
+long-7 : (l : List ℕ) (at : ℕ) (row : List ℕ) (s : ℕ) → length (wrote-7 l at row s) ≡ length l
+long-7 l at row s = length-set (wrote-6 l at row s) _ _ ∙ long-6 l at row s
+
+long-8 : (l : List ℕ) (at : ℕ) (row : List ℕ) (s : ℕ) → length (wrote-8 l at row s) ≡ length l
+long-8 l at row s = length-set (wrote-7 l at row s) _ _ ∙ long-7 l at row s
+
+moved : (l : List ℕ) (at : ℕ) (row : List ℕ) (s : ℕ) → wrote-8 l at row s ≡ fill l at 8 (onward row s)
 unfolding onward
 moved l at row s = rw add-zero at (eight-written l at (onward row s))
+
+still-in : (i n m : ℕ) → m ≡ n → i < n → i < m
+still-in i n m e h = omega arith
 
 abbrev entry-3 : tie.After-shared-slice-known3 → tie.Start
 entry-3 c = c .before .before .before
@@ -139,7 +188,7 @@ mul-line-2 : tie.Need-mul-line-2
 mul-line-2 c = line-mul (entry-8 c) 1 6 refl
 
 slice-write-line-2 : tie.Need-slice-write-line-2
-slice-write-line-2 c = rw length-set (line-in (entry-8 c) 1 6 refl)
+slice-write-line-2 c = let e = entry-8 c in let a = e .args in still-in _ _ _ (long-1 (a .line .now) (a .at) (a .row .now) (a .s)) (line-in e 1 6 refl)
 
 add-line-2 : tie.Need-add-line-2
 add-line-2 c = line-add (entry-8 c) 2 5 refl
@@ -148,7 +197,7 @@ mul-line-3 : tie.Need-mul-line-3
 mul-line-3 c = line-mul (entry-8 c) 2 5 refl
 
 slice-write-line-3 : tie.Need-slice-write-line-3
-slice-write-line-3 c = rw (length-set, length-set) (line-in (entry-8 c) 2 5 refl)
+slice-write-line-3 c = let e = entry-8 c in let a = e .args in still-in _ _ _ (long-2 (a .line .now) (a .at) (a .row .now) (a .s)) (line-in e 2 5 refl)
 
 add-line-3 : tie.Need-add-line-3
 add-line-3 c = line-add (entry-8 c) 3 4 refl
@@ -157,7 +206,7 @@ mul-line-4 : tie.Need-mul-line-4
 mul-line-4 c = line-mul (entry-8 c) 3 4 refl
 
 slice-write-line-4 : tie.Need-slice-write-line-4
-slice-write-line-4 c = rw (length-set, length-set, length-set) (line-in (entry-8 c) 3 4 refl)
+slice-write-line-4 c = let e = entry-8 c in let a = e .args in still-in _ _ _ (long-3 (a .line .now) (a .at) (a .row .now) (a .s)) (line-in e 3 4 refl)
 
 add-line-4 : tie.Need-add-line-4
 add-line-4 c = line-add (entry-8 c) 4 3 refl
@@ -166,7 +215,7 @@ mul-line-5 : tie.Need-mul-line-5
 mul-line-5 c = line-mul (entry-8 c) 4 3 refl
 
 slice-write-line-5 : tie.Need-slice-write-line-5
-slice-write-line-5 c = rw (length-set, length-set, length-set, length-set) (line-in (entry-8 c) 4 3 refl)
+slice-write-line-5 c = let e = entry-8 c in let a = e .args in still-in _ _ _ (long-4 (a .line .now) (a .at) (a .row .now) (a .s)) (line-in e 4 3 refl)
 
 add-line-5 : tie.Need-add-line-5
 add-line-5 c = line-add (entry-8 c) 5 2 refl
@@ -175,7 +224,7 @@ mul-line-6 : tie.Need-mul-line-6
 mul-line-6 c = line-mul (entry-8 c) 5 2 refl
 
 slice-write-line-6 : tie.Need-slice-write-line-6
-slice-write-line-6 c = rw (length-set, length-set, length-set, length-set, length-set) (line-in (entry-8 c) 5 2 refl)
+slice-write-line-6 c = let e = entry-8 c in let a = e .args in still-in _ _ _ (long-5 (a .line .now) (a .at) (a .row .now) (a .s)) (line-in e 5 2 refl)
 
 add-line-6 : tie.Need-add-line-6
 add-line-6 c = line-add (entry-8 c) 6 1 refl
@@ -184,7 +233,7 @@ mul-line-7 : tie.Need-mul-line-7
 mul-line-7 c = line-mul (entry-8 c) 6 1 refl
 
 slice-write-line-7 : tie.Need-slice-write-line-7
-slice-write-line-7 c = rw (length-set, length-set, length-set, length-set, length-set, length-set) (line-in (entry-8 c) 6 1 refl)
+slice-write-line-7 c = let e = entry-8 c in let a = e .args in still-in _ _ _ (long-6 (a .line .now) (a .at) (a .row .now) (a .s)) (line-in e 6 1 refl)
 
 add-line-7 : tie.Need-add-line-7
 add-line-7 c = line-add (entry-8 c) 7 0 refl
@@ -193,10 +242,10 @@ mul-line-8 : tie.Need-mul-line-8
 mul-line-8 c = line-mul (entry-8 c) 7 0 refl
 
 slice-write-line-8 : tie.Need-slice-write-line-8
-slice-write-line-8 c = rw (length-set, length-set, length-set, length-set, length-set, length-set, length-set) (line-in (entry-8 c) 7 0 refl)
+slice-write-line-8 c = let e = entry-8 c in let a = e .args in still-in _ _ _ (long-7 (a .line .now) (a .at) (a .row .now) (a .s)) (line-in e 7 0 refl)
 
 same-length : tie.Need-same-length
-same-length c = rw (length-set, length-set, length-set, length-set, length-set, length-set, length-set, length-set) refl
+same-length c = let a = entry-8 c .args in long-8 (a .line .now) (a .at) (a .row .now) (a .s)
 
 returns : tie.Need-returns
 returns c = let a = entry-8 c .args in moved (a .line .now) (a .at) (a .row .now) (a .s)
