@@ -60,5 +60,6 @@ written l at a b c d e f g h room =
     }
 
 pub eight-are : (l : List ℕ) (at : ℕ) (v : ℕ → ℕ) {a b c d e f g h : ℕ} → a ≡ v 0 → b ≡ v 1 → c ≡ v 2 → d ≡ v 3 → e ≡ v 4 → f ≡ v 5 → g ≡ v 6
-    → h ≡ v 7 → eight l at a b c d e f g h ≡ fill l at 8 v
+    → h ≡ v 7
+    → set (set (set (set (set (set (set (set l at a) (at + 1) b) (at + 2) c) (at + 3) d) (at + 4) e) (at + 5) f) (at + 6) g) (at + 7) h ≡ fill l at 8 v
 eight-are l at v ea eb ec ed ee ef eg eh = rw (ea, eb, ec, ed, ee, ef, eg, eh) (eight-written l at v)
