@@ -1,9 +1,11 @@
 -- Eight writes one after the other, as laws over variables: to rewrite the nested writes at a function's place is dear. Assumes nothing.
 use mathlib.Core.Path.{_≡_, _∙_}
 use mathlib.Core.List.{List}
-use Prim.Native.Nat.{ℕ, _+_, _<_, _≤_}
+use Prim.Native.Nat.{ℕ, _+_, _*_, _<_, _≤_}
 use native.Mathlib.Omega.{arith}
 use lib.ListN.{length, set, length-set}
+use mir.Syntax.{w64}
+use mir.Val.{Fits}
 use Rattle.base.specs.Paint.{fill}
 use Rattle.taps.proofs.Runs.{eight-written}
 
@@ -63,3 +65,43 @@ pub eight-are : (l : List ℕ) (at : ℕ) (v : ℕ → ℕ) {a b c d e f g h : �
     → h ≡ v 7
     → set (set (set (set (set (set (set (set l at a) (at + 1) b) (at + 2) c) (at + 3) d) (at + 4) e) (at + 5) f) (at + 6) g) (at + 7) h ≡ fill l at 8 v
 eight-are l at v ea eb ec ed ee ef eg eh = rw (ea, eb, ec, ed, ee, ef, eg, eh) (eight-written l at v)
+
+-- the places of eight numbers of two bytes
+pub record Room (o : ℕ) : Type 0 where
+  pub b0 : Fits w64 (o * 2)
+  pub p1 : Fits w64 (o + 1)
+  pub b1 : Fits w64 ((o + 1) * 2)
+  pub p2 : Fits w64 (o + 2)
+  pub b2 : Fits w64 ((o + 2) * 2)
+  pub p3 : Fits w64 (o + 3)
+  pub b3 : Fits w64 ((o + 3) * 2)
+  pub p4 : Fits w64 (o + 4)
+  pub b4 : Fits w64 ((o + 4) * 2)
+  pub p5 : Fits w64 (o + 5)
+  pub b5 : Fits w64 ((o + 5) * 2)
+  pub p6 : Fits w64 (o + 6)
+  pub b6 : Fits w64 ((o + 6) * 2)
+  pub p7 : Fits w64 (o + 7)
+  pub b7 : Fits w64 ((o + 7) * 2)
+
+smaller-fits : (m n : ℕ) → m ≤ n → Fits w64 n → Fits w64 m
+smaller-fits m n h f = record { fits = omega (arith, h, f .fits) }
+
+pub room : (o : ℕ) → Fits w64 ((o + 7) * 2) → Room o
+room o f = record {
+  b0 = smaller-fits _ _ (omega arith) f;
+  p1 = smaller-fits _ _ (omega arith) f;
+  b1 = smaller-fits _ _ (omega arith) f;
+  p2 = smaller-fits _ _ (omega arith) f;
+  b2 = smaller-fits _ _ (omega arith) f;
+  p3 = smaller-fits _ _ (omega arith) f;
+  b3 = smaller-fits _ _ (omega arith) f;
+  p4 = smaller-fits _ _ (omega arith) f;
+  b4 = smaller-fits _ _ (omega arith) f;
+  p5 = smaller-fits _ _ (omega arith) f;
+  b5 = smaller-fits _ _ (omega arith) f;
+  p6 = smaller-fits _ _ (omega arith) f;
+  b6 = smaller-fits _ _ (omega arith) f;
+  p7 = smaller-fits _ _ (omega arith) f;
+  b7 = smaller-fits _ _ (omega arith) f;
+}

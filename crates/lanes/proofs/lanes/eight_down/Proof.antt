@@ -1,6 +1,6 @@
 -- `lanes::lanes::eight_down` meets its contract: eight writes of eight results. Assumes nothing.
 use Rattle.lanes.proofs.Low.{low-first}
-use Rattle.lanes.proofs.Writes.{Written, written, eight-are}
+use Rattle.lanes.proofs.Writes.{Written, written, eight-are, Room, room}
 use Rattle.taps.specs.Kernel.{lowRan}
 use borrow.Author.Needs.{needs}
 use Rattle.lanes.proofs.lanes.eight_down.Statement.{statement}
@@ -65,71 +65,83 @@ add-window-down-7 c = search needs
 window-down-requires-8 : tie.Need-window-down-requires-8
 window-down-requires-8 c κs = search needs
 
+-- the last of the eight places is one of the machine, so are those before it
+last-fits : tie.Need-mul-out-8
+last-fits c = search needs
+
+places : (c : tie.After-window-down8)
+    → let w7 = c .before in
+    let w4 = w7 .before .before .before in
+    let w1 = w4 .before .before .before in
+    let s = w1 .before .before .before in
+    Room (s .args .at)
+places c = room _ (last-fits c)
+
 mul-out : tie.Need-mul-out
-mul-out c = search needs
+mul-out c = places c .b0
 
 slice-write-out : tie.Need-slice-write-out
 slice-write-out c = search needs
 
 add-out : tie.Need-add-out
-add-out c = search needs
+add-out c = places c .p1
 
 mul-out-2 : tie.Need-mul-out-2
-mul-out-2 c = search needs
+mul-out-2 c = places c .b1
 
 slice-write-out-2 : tie.Need-slice-write-out-2
 slice-write-out-2 c = kept c .second
 
 add-out-2 : tie.Need-add-out-2
-add-out-2 c = search needs
+add-out-2 c = places c .p2
 
 mul-out-3 : tie.Need-mul-out-3
-mul-out-3 c = search needs
+mul-out-3 c = places c .b2
 
 slice-write-out-3 : tie.Need-slice-write-out-3
 slice-write-out-3 c = kept c .third
 
 add-out-3 : tie.Need-add-out-3
-add-out-3 c = search needs
+add-out-3 c = places c .p3
 
 mul-out-4 : tie.Need-mul-out-4
-mul-out-4 c = search needs
+mul-out-4 c = places c .b3
 
 slice-write-out-4 : tie.Need-slice-write-out-4
 slice-write-out-4 c = kept c .fourth
 
 add-out-4 : tie.Need-add-out-4
-add-out-4 c = search needs
+add-out-4 c = places c .p4
 
 mul-out-5 : tie.Need-mul-out-5
-mul-out-5 c = search needs
+mul-out-5 c = places c .b4
 
 slice-write-out-5 : tie.Need-slice-write-out-5
 slice-write-out-5 c = kept c .fifth
 
 add-out-5 : tie.Need-add-out-5
-add-out-5 c = search needs
+add-out-5 c = places c .p5
 
 mul-out-6 : tie.Need-mul-out-6
-mul-out-6 c = search needs
+mul-out-6 c = places c .b5
 
 slice-write-out-6 : tie.Need-slice-write-out-6
 slice-write-out-6 c = kept c .sixth
 
 add-out-6 : tie.Need-add-out-6
-add-out-6 c = search needs
+add-out-6 c = places c .p6
 
 mul-out-7 : tie.Need-mul-out-7
-mul-out-7 c = search needs
+mul-out-7 c = places c .b6
 
 slice-write-out-7 : tie.Need-slice-write-out-7
 slice-write-out-7 c = kept c .seventh
 
 add-out-7 : tie.Need-add-out-7
-add-out-7 c = search needs
+add-out-7 c = places c .p7
 
 mul-out-8 : tie.Need-mul-out-8
-mul-out-8 c = search needs
+mul-out-8 c = places c .b7
 
 slice-write-out-8 : tie.Need-slice-write-out-8
 slice-write-out-8 c = kept c .eighth
