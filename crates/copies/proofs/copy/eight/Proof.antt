@@ -225,7 +225,8 @@ returns c =
     let s1 = x1 .before .before in
     let s = s1 .before .before in
     let a = s .args in
-    eight-are (a .out .now) (a .o) (clipped (a .max) (a .l .now) (a .s)) (clipped-first (a .max) (a .l .now) (a .s) (x1 .lesser .ensures)) (x2 .lesser2 .ensures)
+    eight-are (a .out .now) (a .o) (clipped (a .max) (a .l .now) (a .s)) (clipped-first (a .max) (a .l .now) (a .s) (x1 .lesser .ensures))
+    (x2 .lesser2 .ensures)
     (x3 .lesser3 .ensures) (x4 .lesser4 .ensures) (x5 .lesser5 .ensures) (x6 .lesser6 .ensures) (x7 .lesser7 .ensures) (c .lesser8 .ensures)
 
 pub eight-spec : {M : Type 1} → statement M

@@ -12,7 +12,8 @@ kept : (c : tie.After-window-across8)
     let w4 = w7 .before .before .before in
     let w1 = w4 .before .before .before in
     let a = w1 .before .before .before .args in
-    Written (a .out .now) (a .at) (w1 .window-across .result) (w4 .before .before .window-across2 .result) (w4 .before .window-across3 .result) (w4 .window-across4 .result)
+    Written (a .out .now) (a .at) (w1 .window-across .result) (w4 .before .before .window-across2 .result) (w4 .before .window-across3 .result)
+    (w4 .window-across4 .result)
     (w7 .before .before .window-across5 .result) (w7 .before .window-across6 .result) (w7 .window-across7 .result) (c .window-across8 .result)
 kept c =
     let w7 = c .before in
@@ -157,7 +158,8 @@ returns c =
     let w1 = w4 .before .before .before in
     let a = w1 .before .before .before .args in
     eight-are (a .out .now) (a .at) (lowRan (a .p) (a .l .now) 1 (a .s)) (low-first (a .p) (a .l .now) 1 (a .s) (w1 .window-across .ensures))
-    (w4 .before .before .window-across2 .ensures) (w4 .before .window-across3 .ensures) (w4 .window-across4 .ensures) (w7 .before .before .window-across5 .ensures)
+    (w4 .before .before .window-across2 .ensures) (w4 .before .window-across3 .ensures) (w4 .window-across4 .ensures)
+    (w7 .before .before .window-across5 .ensures)
     (w7 .before .window-across6 .ensures) (w7 .window-across7 .ensures) (c .window-across8 .ensures)
 
 pub eight-across-spec : {M : Type 1} → statement M

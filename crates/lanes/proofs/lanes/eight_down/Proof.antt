@@ -12,7 +12,8 @@ kept : (c : tie.After-window-down8)
     let w4 = w7 .before .before .before in
     let w1 = w4 .before .before .before in
     let a = w1 .before .before .before .args in
-    Written (a .out .now) (a .at) (w1 .window-down .result) (w4 .before .before .window-down2 .result) (w4 .before .window-down3 .result) (w4 .window-down4 .result)
+    Written (a .out .now) (a .at) (w1 .window-down .result) (w4 .before .before .window-down2 .result) (w4 .before .window-down3 .result)
+    (w4 .window-down4 .result)
     (w7 .before .before .window-down5 .result) (w7 .before .window-down6 .result) (w7 .window-down7 .result) (c .window-down8 .result)
 kept c =
     let w7 = c .before in
