@@ -37,6 +37,11 @@ pub clipped-on : (max : ℕ) (l : List ℕ) (b c k : ℕ) → clipped max l (b +
 unfolding clipped
 clipped-on max l b c k = rw (add-assoc b c k) refl
 
+-- the first copy
+pub clipped-first : (max : ℕ) (l : List ℕ) (b : ℕ) {v : ℕ} → v ≡ min (getD l b 0) max → v ≡ clipped max l b 0
+unfolding clipped
+clipped-first max l b e = e ∙ ap (λ (k : ℕ). min (getD l k 0) max) (sym (add-zero b))
+
 -- ---- a row near an edge
 
 lower : (x y m : ℕ) → m ≡ min x y → (m ≤ x) × (m ≤ y) × (m < y → m ≡ x)

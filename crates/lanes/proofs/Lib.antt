@@ -1,3 +1,4 @@
 pub mod HighLow
 pub mod Low
 pub mod Tops
+pub mod Writes

@@ -16,7 +16,7 @@ use Rattle.base.proofs.Tests.{and-both}
 use Rattle.taps.specs.Taps.{regular, smooth, sharp, bilinear, filters, tap}
 use Rattle.taps.specs.Filter.{filtered}
 use Rattle.taps.specs.Kernel.{Raised, IsTaps, products, raisedOne, Below, BelowRows, UpToRows, lowTap, lowSum, lowOne}
-use Rattle.taps.specs.Kernel.{lowRan, lowRows, apart, ran, ranRows, fillRows}
+use Rattle.taps.specs.Kernel.{lowAt, lowRan, lowRows, apart, ran, ranRows, fillRows}
 use Rattle.taps.specs.declared.taps.Taps.{Taps}
 use Rattle.taps.proofs.Filtered.{one-is}
 use Rattle.taps.proofs.Loops.{rows-same}
@@ -158,6 +158,11 @@ pub low-ran : (p : Taps) (l : List ℕ) (n b c : ℕ) → IsTaps p → ((t : ℕ
     → lowRan p l n b c ≡ ran 255 (tap (p .filter) (p .phase)) l n b c
 unfolding lowRan ran apart
 low-ran p l n b c r low = rw (mul-zero, add-zero, mul-one) at (low-is p (apart l n (b + c)) r low)
+
+-- its first result
+pub low-first : (p : Taps) (l : List ℕ) (n b : ℕ) {v : ℕ} → v ≡ lowAt p l n b → v ≡ lowRan p l n b 0
+unfolding lowRan
+low-first p l n b e = e ∙ ap (lowAt p l n) (sym (add-zero b))
 
 -- rows of horizontal results over samples of at most 255
 pub across-low : (p : Taps) (l out : List ℕ) (b line w h at stride : ℕ) → IsTaps p → UpToRows 255 l b line (w + 7) h
