@@ -1,4 +1,3 @@
 pub mod HighLow
 pub mod Low
 pub mod Tops
-pub mod Writes

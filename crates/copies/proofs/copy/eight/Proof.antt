@@ -2,7 +2,7 @@
 use borrow.Author.Needs.{needs}
 use Rattle.taps.specs.Kernel.{clipped}
 use Rattle.copies.proofs.Copies.{clipped-first}
-use Rattle.copies.proofs.Writes.{Written, written, eight-are, Room, room}
+use Rattle.taps.proofs.Writes.{Written, written, eight-are, Room, room}
 use Rattle.copies.proofs.copy.eight.Statement.{statement}
 use Rattle.copies.proofs.copy.eight.Tie as tie
 

@@ -1,6 +1,6 @@
 -- `lanes::lanes::eight_down` meets its contract: eight writes of eight results. Assumes nothing.
 use Rattle.lanes.proofs.Low.{low-first}
-use Rattle.lanes.proofs.Writes.{Written, written, eight-are, Room, room}
+use Rattle.taps.proofs.Writes.{Written, written, eight-are, Room, room}
 use Rattle.taps.specs.Kernel.{lowRan}
 use borrow.Author.Needs.{needs}
 use Rattle.lanes.proofs.lanes.eight_down.Statement.{statement}
