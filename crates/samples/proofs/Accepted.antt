@@ -1,6 +1,6 @@
 -- What an accepted call says of its arguments, and the laws by which its number is computed. Assumes nothing.
-use mathlib.Core.Path.{_≡_, refl, sym, _∙_}
-use mathlib.Core.Bool.{Bool, true, false, _&&_, _||_}
+use mathlib.Core.Path.{_≡_, refl, _∙_}
+use mathlib.Core.Bool.{Bool, true, false, _&&_}
 use mathlib.Core.List.{List}
 use Prim.Native.Nat.{ℕ, _-_, _≤_}
 use native.Mathlib.Omega.{arith}
@@ -117,12 +117,6 @@ number-both a n m x y e p q = rw (p, q, e) (all-both _ _ _ _ _ _ (fits (a .one .
 pub second-fails : (a b : Bool) → a ≡ true → (a && b) ≡ false → b ≡ false
 second-fails true b e f = f
 second-fails false b e f = clash e
-
--- a depth that is none of the first two is the third
-pub third : (a b c : Bool) → (a || b || c) ≡ true → a ≡ false → b ≡ false → c ≡ true
-third true b c e p q = clash (sym p)
-third false true c e p q = clash (sym q)
-third false false c e p q = e
 
 -- a number in 1..m
 from-one : (m : ℕ) (z : ℤ) → Number.between (pos 1) (pos m) z ≡ true → (1 ≤ toN z) × (toN z ≤ m)

@@ -135,13 +135,7 @@ fn top(shape: BlockShape) -> u16
     requires { ⌜ Call.kind shape ≡ true ⌝ }
     ensures { λ r. ⌜ r ≡ 2 ^ shape .depth - 1 ⌝ }
 {
-    if shape.depth == 8 {
-        255
-    } else if shape.depth == 10 {
-        1023
-    } else {
-        4095
-    }
+    (4095u32 >> (12 - shape.depth)) as u16
 }
 
 // An accepted block from one reference.
