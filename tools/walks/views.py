@@ -720,7 +720,7 @@ def above(path, view, lifetimes, params, new, callee, rest, result, specs, said)
 
 USIZE, U32, I32 = Num("usize", False, "w64"), Num("u32", False, "w32"), Num("i32", True, "w32")
 BAND = Slice()
-SHAPE, STEPPING = Struct("samples", "block_inter_pred", "BlockShape"), Struct("samples", "block_inter_pred", "Stepping")
+SHAPE, STEPPING = Struct("blocks", "block", "BlockShape"), Struct("blocks", "block", "Stepping")
 PLANE = View("ref_plane", "RefPlane", Struct("planes", "plane", "PlaneGeom"),
              [("upper", BAND), ("lower", BAND), ("width", I32), ("height", I32), ("stride", USIZE), ("«upper_rows»", USIZE)])
 FRAME = View("ref_frame", "RefFrame", Struct("judgement", "judging", "RefGeom"),

@@ -6,8 +6,8 @@ ghost use Rattle.host.specs.InC as InC;
 use crate::vectors_c::SignBias;
 use crate::vectors_c::list;
 use base::Mv;
-use lists::MvPair;
-use records::MvRefGeometry;
+use vectors::MvPair;
+use vectors::MvRefGeometry;
 
 // The vectors of a block's four sub-blocks in one list.
 #[repr(C)]
@@ -37,7 +37,7 @@ pub extern "C" fn knobspindle_append_sub8x8_mvs(
     let bias = sign_bias.frame;
     let four = own.mvs;
     let of = list(four);
-    sub8x8::append_sub8x8_mvs(
+    vectors::append_sub8x8_mvs(
         modes,
         frames,
         mvs,
@@ -62,5 +62,5 @@ pub extern "C" fn knobspindle_find_best_ref_mvs(
 ) -> MvPair
     ensures { λ r. ⌜ r ≡ bestMvs geometry first second allowed ⌝ }
 {
-    lists::find_best_ref_mvs(geometry, first, second, allowed)
+    vectors::find_best_ref_mvs(geometry, first, second, allowed)
 }

@@ -4,8 +4,8 @@ ghost use Prim.Native.Nat.{_≤_};
 ghost use Rattle.host.specs.InC as InC;
 ghost use Rattle.planes.specs.Plane.{lent};
 ghost use Rattle.samples.specs.Call.{call, ref, Outcome};
-use planes::PlaneGeom;
 use samples::BlockShape;
+use samples::PlaneGeom;
 use samples::Stepping;
 
 // Where a row stands: in the upper band (0) or the lower (1), from which sample on, and how many samples.
@@ -48,7 +48,7 @@ pub extern "C" fn knobspindle_row_read<'a>(
     ensures { λ r. ⌜ r ≡ InC.rowPlace (lent geom (now (upper .entry)) (now (lower .entry))) y ⌝ }
 {
     let mut number = 0;
-    planes::row_read(upper, lower, geom, y, &mut number);
+    samples::row_read(upper, lower, geom, y, &mut number);
     if number != 0 {
         return RowPlace {
             answer: number,

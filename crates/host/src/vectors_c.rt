@@ -9,10 +9,10 @@ ghost use Rattle.host.specs.InC as InC;
 use base::Eighth;
 use base::Mv;
 use base::PlaneMv;
-use lists::MvRefs;
-use records::MvRefGeometry;
 use vectors::BlockGrid;
 use vectors::ClampedMv;
+use vectors::MvRefGeometry;
+use vectors::MvRefs;
 use vectors::ScaleGeom;
 use vectors::ScaledMv;
 use vectors::SelectedMv;
@@ -118,7 +118,7 @@ pub extern "C" fn knobspindle_find_mv_refs(
         geometry target block («sign_bias» .frame) «use_prev» ⌝ }
 {
     let bias = sign_bias.frame;
-    lists::find_mv_refs(
+    vectors::find_mv_refs(
         modes,
         frames,
         mvs,

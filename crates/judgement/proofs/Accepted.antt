@@ -25,8 +25,8 @@ use Rattle.scaling.proofs.Scaled.{start-near, step-in}
 use Rattle.vectors.proofs.Near.{clamped-legal}
 use Rattle.vectors.proofs.Accepted.{scale-ok}
 use Rattle.planes.specs.Plane.{fits}
-use Rattle.samples.specs.Call.{also, kind, starts}
-use Rattle.samples.specs.declared.block_inter_pred.Stepping.{Stepping}
+use Rattle.blocks.specs.Block.{also, kind, starts}
+use Rattle.blocks.specs.declared.block.Stepping.{Stepping}
 use Rattle.judgement.specs.Whole.{Source, Whole, steppingOf, scaleGeom, planeOf, shapeOf, allowedRef, destFits, blockOk, numberOf}
 use Rattle.judgement.specs.declared.judging.Led.{Led}
 use Rattle.judgement.specs.Chain.{lead}

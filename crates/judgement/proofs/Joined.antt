@@ -20,8 +20,8 @@ use Rattle.vectors.specs.Clamp.{clampMv, onAxis}
 use Rattle.vectors.specs.Scale.{scaleMv, usable, placed}
 use Rattle.scaling.proofs.Tested.{usable-sizes}
 use Rattle.planes.specs.Plane.{lent, sized, fits}
-use Rattle.samples.specs.Call as Call
-use Rattle.samples.specs.Call.{also}
+use Rattle.blocks.specs.Block as Block
+use Rattle.blocks.specs.Block.{also}
 use Rattle.vectors.specs.declared.inter_mv.BlockGrid.{BlockGrid}
 use Rattle.vectors.specs.declared.inter_mv.SelectedMv.{SelectedMv}
 use Rattle.vectors.specs.declared.inter_mv.ClampedMv.{ClampedMv}
@@ -246,7 +246,7 @@ module _ (a : Whole) where
   vector-two e = select-also (b .average) _ _ refl ∙ ap (also (b .average)) (vector-at (a .two .geom) 1 e)
 
   pub joined : (n m : ℕ) → refusal b leadOne leadTwo (lendings n m) ≡ numberOf a n m
-  unfolding refusal numberOf Chain.kind Call.kind
+  unfolding refusal numberOf Chain.kind Block.kind
   joined n m =
       let W = within 1 64 (b .w) in
       let H = within 1 64 (b .h) in

@@ -15,9 +15,9 @@ use Rattle.vectors.specs.Scale.{scaleMv, usable, placed}
 use Rattle.vectors.specs.declared.inter_mv.BlockGrid.{BlockGrid}
 use Rattle.vectors.specs.declared.inter_mv.ScaleGeom.{ScaleGeom}
 use Rattle.planes.specs.Plane.{Lent, lent, holds, fits}
-use Rattle.samples.specs.Call.{kind, also}
-use Rattle.samples.specs.declared.block_inter_pred.BlockShape.{BlockShape}
-use Rattle.samples.specs.declared.block_inter_pred.Stepping.{Stepping}
+use Rattle.blocks.specs.Block.{kind, also}
+use Rattle.blocks.specs.declared.block.BlockShape.{BlockShape}
+use Rattle.blocks.specs.declared.block.Stepping.{Stepping}
 use Rattle.planes.specs.declared.plane.PlaneGeom.{PlaneGeom}
 use Rattle.judgement.specs.declared.judging.InterPredArgs.{InterPredArgs}
 use Rattle.judgement.specs.declared.judging.FrameGeom.{FrameGeom}

@@ -2,7 +2,7 @@
 ghost use mathlib.Core.Path.{_≡_};
 ghost use lib.IntN.{pos};
 ghost use Rattle.planes.specs.Plane.{lent};
-ghost use Rattle.samples.specs.Call as Call;
+ghost use Rattle.blocks.specs.Block as Block;
 ghost use Rattle.judgement.specs.Whole as Whole;
 ghost use Rattle.judgement.specs.Whole.{source, whole};
 ghost use Rattle.judgement.specs.Chain as Chain;
@@ -19,9 +19,9 @@ use base::VECTOR;
 use base::natural;
 use base::unless;
 use base::within;
+use blocks::Stepping;
 use planes::PlaneGeom;
 use planes::row_read;
-use samples::Stepping;
 use vectors::BlockGrid;
 use vectors::ScaleGeom;
 use vectors::clamp_mv;
@@ -196,7 +196,7 @@ fn lends<'a>(upper: &'a [u16], lower: &'a [u16], geom: PlaneGeom) -> bool
 }
 
 fn lends_also<'a>(average: bool, upper: &'a [u16], lower: &'a [u16], geom: PlaneGeom) -> bool
-    ensures { λ r. ⌜ r ≡ Call.also average (Chain.lends (lent geom (now (upper .entry)) (now (lower .entry)))) ⌝ }
+    ensures { λ r. ⌜ r ≡ Block.also average (Chain.lends (lent geom (now (upper .entry)) (now (lower .entry)))) ⌝ }
 {
     if average {
         lends(upper, lower, geom)

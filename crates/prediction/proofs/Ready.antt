@@ -22,7 +22,7 @@ use Rattle.scaling.proofs.Tested.{placed-small}
 use Rattle.planes.specs.Plane.{sized, holds}
 use Rattle.samples.specs.Call as Call
 use Rattle.samples.specs.Call.{Call, call, ref, also, starts, outFits, value}
-use Rattle.samples.specs.declared.block_inter_pred.Stepping.{Stepping}
+use Rattle.blocks.specs.declared.block.Stepping.{Stepping}
 use Rattle.samples.proofs.Reached.{blend-same}
 use Rattle.judgement.proofs.Joined.{ref-sized}
 use Rattle.judgement.proofs.Accepted.{Accepted, accepted, both-true, given, starts-taken, look-one, look-two}

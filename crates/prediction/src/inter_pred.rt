@@ -10,16 +10,16 @@ ghost use Rattle.prediction.specs.Predict.{source, whole, Outcome};
 ghost use Rattle.prediction.specs.Chain.{paintFrom, Ready};
 use base::Eighth;
 use base::natural;
+use blocks::predict_accepted;
 use judgement::DestGeom;
 use judgement::FrameGeom;
 use judgement::InterPredArgs;
 use judgement::RefGeom;
 use judgement::judge;
 use judgement::plane_geom;
-use planes::PlaneGeom;
 use samples::BlockShape;
+use samples::PlaneGeom;
 use samples::Stepping;
-use samples::predict_accepted;
 use vectors::BlockGrid;
 
 // Of n samples from place at on, those before the end.

@@ -16,11 +16,12 @@ use Rattle.base.proofs.Painted.{lt-or-ge, find, length-paint, paint-at, paint-e
 use Rattle.base.proofs.Tests.{and-four}
 use Rattle.samples.specs.Call.{Ref, Call, value, numberOf, Outcome}
 use Rattle.samples.specs.Reach.{Piece}
-use Rattle.samples.specs.Single.{Legal}
-use Rattle.samples.proofs.Accepted.{accepted, legal-says, after-taken}
+use Rattle.blocks.specs.Passed.{Legal}
+use Rattle.blocks.proofs.Facts.{legal-says}
+use Rattle.samples.proofs.Accepted.{accepted, after-taken}
 use Rattle.planes.proofs.Bands.{holds-row}
 use Rattle.samples.proofs.Reached.{rectangle}
-use Rattle.samples.specs.declared.block_inter_pred.BlockShape.{BlockShape}
+use Rattle.blocks.specs.declared.block.BlockShape.{BlockShape}
 use Rattle.promises.specs.Cut.{Part, Onward, Within, Each, has, count, Cover, Tiling, first, Made, done, next}
 
 -- ---- what an accepted call says of its output

@@ -14,12 +14,12 @@ use Rattle.base.specs.Position.{hold, along, place}
 use Rattle.base.specs.Vector.{sixteenth}
 use Rattle.taps.specs.Filter.{filtered}
 use Rattle.taps.specs.Taps.{bilinear, filters, tap}
-use Rattle.samples.specs.Sample.{across, sample, blend}
+use Rattle.blocks.specs.Sample.{across, sample, blend}
 use Rattle.planes.specs.Plane.{Lent, lent, plane, holds, sized, fits}
 use Rattle.samples.specs.Call.{Call, call, ref, fromRef, value, kind, starts, outFits, numberOf, Outcome}
 use Rattle.samples.specs.Reach.{SamePlane}
 use Rattle.samples.proofs.Accepted.{after-taken}
-use Rattle.samples.specs.declared.block_inter_pred.Stepping.{Stepping}
+use Rattle.blocks.specs.declared.block.Stepping.{Stepping}
 use Rattle.promises.specs.Cut.{Part, part, Within, has, count, Tiling, Made, done, next}
 use Rattle.promises.proofs.Cutting.{cutting-once}
 

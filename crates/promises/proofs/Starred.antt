@@ -19,7 +19,7 @@ use Rattle.lists.specs.MvRef.{clampPart, before, subList}
 use Rattle.vectors.specs.Scale.{scaleOf, lumaOf, fracOf, startOf, stepOf, sized, allowed, usable, placed, legal16, startAxis, stepAxis, scaleMv}
 use Rattle.taps.specs.Filter.{filtered}
 use Rattle.taps.specs.Taps.{regular, smooth, sharp, bilinear, filters, tap}
-use Rattle.samples.specs.Sample.{across, sample, blend}
+use Rattle.blocks.specs.Sample.{across, sample, blend}
 use Rattle.planes.specs.Plane.{plane}
 use Rattle.samples.specs.Call.{fromRef}
 use Rattle.promises.specs.Starred.{halving, quartering, endsCrossed, heldHigh, modes, subThree, steps, oneRow, stepped, average, clipped, far}

@@ -17,7 +17,7 @@ use Rattle.vectors.specs.Select.{halved, quartered}
 use Rattle.lists.specs.MvRef.{clampPart, subList}
 use Rattle.vectors.specs.Scale.{scaleMv}
 use Rattle.vectors.specs.declared.inter_mv.ScaledMv.{ScaledMv}
-use Rattle.samples.specs.Sample.{blend}
+use Rattle.blocks.specs.Sample.{blend}
 use Rattle.planes.specs.Plane.{lent}
 use Rattle.samples.specs.Call.{ref, fromRef}
 

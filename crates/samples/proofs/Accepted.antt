@@ -1,29 +1,18 @@
--- What an accepted call says of its arguments, and the laws by which its number is computed. Assumes nothing.
-use mathlib.Core.Path.{_≡_, refl, _∙_}
+-- The laws by which a call's number is computed, what a number of 0 says, and the output after a call. Assumes nothing.
+use mathlib.Core.Path.{_≡_, refl}
 use mathlib.Core.Bool.{Bool, true, false, _&&_}
 use mathlib.Core.List.{List}
-use Prim.Native.Nat.{ℕ, _-_, _≤_}
-use native.Mathlib.Omega.{arith}
+use Prim.Native.Nat.{ℕ}
 use borrow.Author.Tests.{leb-true, ne-eqb}
-use lib.Dec.{leb}
-use lib.IntN.{ℤ, pos, negsuc, natAbs}
 use lib.ListN.{length}
 use Rattle.base.specs.Answer.{unless}
-use Rattle.base.specs.Number as Number
-use Rattle.base.specs.Number.{within}
 use Rattle.base.specs.Paint.{paint}
-use Rattle.base.specs.Position.{toN}
 use Rattle.base.proofs.Answered.{unless-zero}
-use Rattle.base.proofs.Painted.{paint-same}
-use Rattle.base.proofs.Tests.{clash, and-both, within-both, between-abs}
-use Rattle.planes.specs.Plane.{widthOf, heightOf, holds, sized, fits}
-use Rattle.samples.specs.Call.{Ref, Call, also, kind, starts, fromRef, value, numberOf, outFits, after}
-use Rattle.passes.specs.Lifted.{meanWith}
-use Rattle.samples.specs.Single.{numberOne, lowest, Legal}
-use Rattle.samples.specs.Sample.{blend}
-use Rattle.samples.specs.declared.block_inter_pred.BlockShape.{BlockShape}
-use Rattle.planes.proofs.Bands.{holds-row}
-use Rattle.passes.proofs.Blocks.{mean-painted}
+use Rattle.base.proofs.Tests.{clash, and-both, within-both}
+use Rattle.planes.specs.Plane.{fits}
+use Rattle.blocks.specs.Passed.{Taken}
+use Rattle.samples.specs.Call.{Call, also, value, numberOf, outFits, after}
+use Rattle.samples.specs.Single.{numberOne, lowest}
 
 -- the table of one reference, left at each of its rows
 module _ (t1 t4 t5 t6 f o : Bool) where
@@ -118,52 +107,7 @@ pub second-fails : (a b : Bool) → a ≡ true → (a && b) ≡ false → b ≡ 
 second-fails true b e f = f
 second-fails false b e f = clash e
 
--- a number in 1..m
-from-one : (m : ℕ) (z : ℤ) → Number.between (pos 1) (pos m) z ≡ true → (1 ≤ toN z) × (toN z ≤ m)
-unfolding Number.between
-from-one m (pos n) e = let p = and-both (leb 1 n) (leb n m) e in (leb-true 1 n (p .0), leb-true n m (p .1))
-from-one m (negsuc n) e = clash e
-
--- what the tests of a block and a reference say
-pub record Facts (b : BlockShape) (p : Ref) : Type 0 where
-  pub w : (1 ≤ b .w) × (b .w ≤ 64)
-  pub h : (1 ≤ b .h) × (b .h ≤ 64)
-  pub filter : b .filter ≤ 3
-  pub width : 1 ≤ widthOf (p .lent .geom)
-  pub height : 1 ≤ heightOf (p .lent .geom)
-  pub left : natAbs (p .from .«start_x» .0) ≤ 3000000
-  pub top : natAbs (p .from .«start_y» .0) ≤ 3000000
-  pub across : toN (p .from .«step_x» .0) ≤ 32
-  pub down : toN (p .from .«step_y» .0) ≤ 32
-
-pub legal-says : (b : BlockShape) (p : Ref) → Legal b p → Facts b p
-unfolding kind sized starts
-legal-says b p l =
-    let block = and-both (within 1 64 (b .w)) (within 1 64 (b .h)) (l .block) in
-    let size = and-both (Number.between (pos 1) (pos 65536) (p .lent .geom .width)) (Number.between (pos 1) (pos 65536) (p .lent .geom .height)) (l .plane) in
-    let three = and-both _ _ (l .from) in
-    let two = and-both _ _ (three .0) in
-    let one = and-both _ _ (two .0) in
-    record {
-      w = within-both 1 64 (b .w) (block .0);
-      h = within-both 1 64 (b .h) (block .1);
-      filter = leb-true (b .filter) 3 (and-both _ _ (l .filter) .0);
-      width = from-one 65536 (p .lent .geom .width) (size .0) .0;
-      height = from-one 65536 (p .lent .geom .height) (size .1) .0;
-      left = between-abs 2999999 (p .from .«start_x» .0) (one .0);
-      top = between-abs 2999999 (p .from .«start_y» .0) (one .1);
-      across = from-one 32 (p .from .«step_x» .0) (two .1) .1;
-      down = from-one 32 (p .from .«step_y» .0) (three .1) .1;
-    }
-
--- what an accepted call says, with an output of n numbers and a room of m
-pub record Taken (a : Call) (n m : ℕ) : Type 0 where
-  pub one : Legal (a .shape) (a .one)
-  pub two : a .shape .average ≡ true → Legal (a .shape) (a .two)
-  pub apart : a .shape .w ≤ a .stride
-  pub out : holds (a .shape .h) (a .stride) (a .shape .w) n ≡ true
-  pub room : 8576 ≤ m
-
+-- what a number of 0 says: every test was passed
 also-true : (average t : Bool) → also average t ≡ true → average ≡ true → t ≡ true
 also-true true t e q = e
 also-true false t e q = clash q
@@ -206,21 +150,3 @@ after-taken a out m e = simp e
 pub after-refused : (a : Call) (out : List ℕ) (m : ℕ) → (numberOf a (length out) m ≡ 0 → ⊥) → after a out m ≡ out
 unfolding after
 after-refused a out m d = simp (ne-eqb _ 0 d)
-
--- list 0 alone, where it is not averaged
-pub painted-one : (a : Call) (out : List ℕ) → a .shape .average ≡ false
-    → paint out (a .stride) (a .shape .w) (a .shape .h) (fromRef (a .shape) (a .one)) ≡ paint out (a .stride) (a .shape .w) (a .shape .h) (value a)
-unfolding value blend
-painted-one a out e = paint-same _ _ _ _ _ _ (λ r c rh cw. rw e)
-
--- and list 1 on top of it, where it is
-pub painted-two : (a : Call) (out : List ℕ) (m : ℕ) → Taken a (length out) m → a .shape .average ≡ true
-    → let b = a .shape in
-    let first = paint out (a .stride) (b .w) (b .h) (fromRef b (a .one)) in
-    paint first (a .stride) (b .w) (b .h) (meanWith first (a .stride) (fromRef b (a .two))) ≡ paint out (a .stride) (b .w) (b .h) (value a)
-unfolding value blend
-painted-two a out m t e =
-    let b = a .shape in
-    let f = legal-says b (a .one) (t .one) in
-    let fit = holds-row (b .h) (a .stride) (b .w) (length out) (b .h - 1) (t .out) (omega (arith, f .h)) in
-    mean-painted out (a .stride) (b .w) (b .h) _ _ (t .apart) fit ∙ paint-same _ _ _ _ _ _ (λ r c rh cw. rw e)

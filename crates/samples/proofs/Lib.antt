@@ -1,5 +1,3 @@
 pub mod Accepted
-pub mod Bridge
-pub mod Depths
 pub mod Outcomes
 pub mod Reached

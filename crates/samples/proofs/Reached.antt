@@ -9,12 +9,12 @@ use lib.IntN.{ℤ, pos, negsuc, _+ℤ_, _-ℤ_}
 use Rattle.base.specs.Position.{toN, floor16, mod16, hold, along, place}
 use Rattle.base.proofs.Lift.{Diff, Lifted, lifted, diff-pos, diff-neg, diff-add, diff-toN, diff-along, along-along, place-lifted}
 use Rattle.taps.specs.Taps.{tap}
-use Rattle.samples.specs.Sample.{across, sample, blend}
+use Rattle.blocks.specs.Sample.{across, sample, blend}
 use Rattle.planes.specs.Plane.{Lent, plane, widthOf, heightOf}
 use Rattle.samples.specs.Call.{Ref, ref, Call, fromRef, value}
 use Rattle.samples.specs.Reach.{low, high, Agree, SamePlane, Piece, Rectangle}
-use Rattle.samples.specs.declared.block_inter_pred.BlockShape.{BlockShape}
-use Rattle.samples.specs.declared.block_inter_pred.Stepping.{Stepping}
+use Rattle.blocks.specs.declared.block.BlockShape.{BlockShape}
+use Rattle.blocks.specs.declared.block.Stepping.{Stepping}
 use Rattle.taps.proofs.Filtered.{samples-same}
 
 -- ---- places

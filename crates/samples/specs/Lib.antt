@@ -1,4 +1,3 @@
-pub mod Sample
 pub mod Call
 pub mod Reach
 pub mod Single

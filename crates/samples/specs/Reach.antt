@@ -6,7 +6,7 @@ use lib.IntN.{ℤ, pos, _+ℤ_, _-ℤ_}
 use Rattle.base.specs.Position.{toN, floor16, hold, along}
 use Rattle.planes.specs.Plane.{Lent, plane, widthOf, heightOf}
 use Rattle.samples.specs.Call.{Ref, Call}
-use Rattle.samples.specs.declared.block_inter_pred.Stepping.{Stepping}
+use Rattle.blocks.specs.declared.block.Stepping.{Stepping}
 
 -- the first column, or row, that a block can read: floor(start/16) - 3, held
 unfoldable pub low : ℕ → ℤ → ℕ

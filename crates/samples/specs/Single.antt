@@ -9,7 +9,7 @@ use Rattle.base.specs.Answer.{row, answer, BLOCK, FILTER, SIZE, START, SHORT}
 use Rattle.base.specs.Number.{within}
 use Rattle.planes.specs.Plane.{lent, plane, sized, fits}
 use Rattle.samples.specs.Call.{Ref, call, kind, starts, outFits}
-use Rattle.samples.specs.declared.block_inter_pred.BlockShape.{BlockShape}
+use Rattle.blocks.specs.declared.block.BlockShape.{BlockShape}
 
 -- the number of a call with one reference
 unfoldable pub numberOne : BlockShape → Ref → ℕ → ℕ → ℕ → ℕ
@@ -25,11 +25,3 @@ numberOne b p stride n m =
 -- the lower of two numbers, where 0 is none
 unfoldable pub lowest : ℕ → ℕ → ℕ
 lowest a b = cond (eqb a 0) b (cond (eqb b 0) a (min a b))
-
--- a block and a reference that passed their tests
-pub record Legal (b : BlockShape) (p : Ref) : Type 0 where
-  pub block : (within 1 64 (b .w) && within 1 64 (b .h)) ≡ true
-  pub filter : kind b ≡ true
-  pub plane : sized (p .lent .geom) ≡ true
-  pub from : starts (p .from) ≡ true
-  pub bands : fits (p .lent) ≡ true

@@ -1,7 +1,8 @@
-// Samples: what a block shows, from a position in one reference or two.
+// Samples: a row of a plane, and what a block shows, from a position in one reference or two.
 mod block_inter_pred;
 
-pub use block_inter_pred::BlockShape;
-pub use block_inter_pred::Stepping;
 pub use block_inter_pred::block_inter_predict;
-pub use block_inter_pred::predict_accepted;
+pub use blocks::BlockShape;
+pub use blocks::Stepping;
+pub use planes::PlaneGeom;
+pub use planes::row_read;

@@ -4,11 +4,11 @@ ghost use Rattle.base.specs.Answer.{answer};
 ghost use Rattle.planes.specs.Plane.{lent, readRows, ReadOutcome};
 ghost use Rattle.samples.specs.Call.{call, ref, Outcome};
 ghost use Rattle.views.specs.Seen.{geom, plane};
-use planes::PlaneGeom;
-use planes::row_read;
 use samples::BlockShape;
+use samples::PlaneGeom;
 use samples::Stepping;
 use samples::block_inter_predict;
+use samples::row_read;
 
 // The bands, the plane's size in samples, the distance between rows, and how many rows the upper band has; the lower one has the rest.
 pub struct RefPlane<'a> {

@@ -8,6 +8,7 @@ use lib.ListN.{length, take, length-drop}
 use Rattle.base.specs.Paint.{onPart}
 use Rattle.planes.specs.Plane.{lent}
 use Rattle.samples.specs.Call.{Call, call, ref}
+use Rattle.samples.proofs.Accepted.{accepted}
 use Rattle.prediction.specs.Chain.{paintFrom}
 use Rattle.prediction.proofs.Ready.{paint-none, none-or, some-both, put-rest}
 use borrow.Author.Needs.{needs}
@@ -60,7 +61,7 @@ predict-accepted-requires c κs =
     let out = s .args .out .now in
     let has = some e in
     let rest = ap length (part-to-end out (s .args .i)) ∙ length-drop (s .args .i) out in
-    rw rest (s .pre .taken (has .0) (has .1))
+    accepted (asked s) _ _ (rw rest (s .pre .taken (has .0) (has .1)))
 
 same-length : tie.Need-same-length
 same-length c = search needs

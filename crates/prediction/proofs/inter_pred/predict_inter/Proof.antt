@@ -6,8 +6,8 @@ use borrow.Author.Needs.{needs}
 use lib.ListN.{length}
 use Rattle.planes.specs.Plane.{lent}
 use Rattle.samples.specs.Call.{Call, call, ref}
-use Rattle.samples.specs.declared.block_inter_pred.BlockShape.{BlockShape}
-use Rattle.samples.specs.declared.block_inter_pred.Stepping.{Stepping}
+use Rattle.blocks.specs.declared.block.BlockShape.{BlockShape}
+use Rattle.blocks.specs.declared.block.Stepping.{Stepping}
 use Rattle.planes.specs.declared.plane.PlaneGeom.{PlaneGeom}
 use Rattle.prediction.specs.Predict.{Whole, source, whole, numberOf}
 use Rattle.prediction.proofs.Ready.{callWith, ready, painted-is, after-taken, after-refused, corner}

@@ -5,8 +5,10 @@ use borrow.Author.Needs.{needs}
 use lib.ListN.{length}
 use Rattle.base.proofs.Painted.{length-paint}
 use Rattle.planes.specs.Plane.{lent}
+use Rattle.blocks.specs.Passed.{Taken}
+use Rattle.blocks.proofs.Facts.{painted-two}
 use Rattle.samples.specs.Call.{ref, Call, call, numberOf}
-use Rattle.samples.proofs.Accepted.{number-both, Taken, accepted, after-taken, after-refused, painted-two}
+use Rattle.samples.proofs.Accepted.{number-both, accepted, after-taken, after-refused}
 use Rattle.samples.proofs.block_inter_pred.averaged.Statement.{statement}
 use Rattle.samples.proofs.block_inter_pred.averaged.Tie as tie
 

@@ -4,8 +4,9 @@ use native.Mathlib.Omega.{arith}
 use borrow.Author.Needs.{needs}
 use lib.ListN.{length}
 use Rattle.planes.specs.Plane.{lent}
+use Rattle.blocks.proofs.Facts.{painted-one}
 use Rattle.samples.specs.Call.{ref, Call, call, numberOf}
-use Rattle.samples.proofs.Accepted.{number-alone, accepted, after-taken, after-refused, painted-one}
+use Rattle.samples.proofs.Accepted.{number-alone, accepted, after-taken, after-refused}
 use Rattle.samples.proofs.block_inter_pred.block_inter_predict.Statement.{statement}
 use Rattle.samples.proofs.block_inter_pred.block_inter_predict.Tie as tie
 

@@ -17,12 +17,12 @@ use Rattle.samples.specs.Call.{call, ref, Outcome}
 use Rattle.views.specs.declared.ref_plane.RefPlane.{RefPlane}
 use Rattle.views.proofs.ref_plane.RefPlane as T
 use Rattle.views.proofs.ref_plane.RefPlane.Laws as T′
-use Rattle.samples.specs.declared.block_inter_pred.BlockShape.{BlockShape}
-use Rattle.samples.proofs.block_inter_pred.BlockShape
-use Rattle.samples.proofs.block_inter_pred.BlockShape.Laws as BlockShape′
-use Rattle.samples.specs.declared.block_inter_pred.Stepping.{Stepping}
-use Rattle.samples.proofs.block_inter_pred.Stepping
-use Rattle.samples.proofs.block_inter_pred.Stepping.Laws as Stepping′
+use Rattle.blocks.specs.declared.block.BlockShape.{BlockShape}
+use Rattle.blocks.proofs.block.BlockShape
+use Rattle.blocks.proofs.block.BlockShape.Laws as BlockShape′
+use Rattle.blocks.specs.declared.block.Stepping.{Stepping}
+use Rattle.blocks.proofs.block.Stepping
+use Rattle.blocks.proofs.block.Stepping.Laws as Stepping′
 use Rattle.planes.specs.declared.plane.PlaneGeom.{PlaneGeom}
 use Rattle.planes.proofs.plane.PlaneGeom
 use Rattle.planes.proofs.plane.PlaneGeom.Laws as PlaneGeom′

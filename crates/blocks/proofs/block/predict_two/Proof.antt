@@ -1,19 +1,23 @@
--- `samples::block_inter_pred::predict_one` meets its contract: lifted positions are the signed ones. Assumes nothing.
+-- `blocks::block::predict_two` meets its contract: lifted positions are the signed ones. Assumes nothing.
 use mathlib.Core.Path.{ap, _∙_}
+use Prim.Native.Nat.{ℕ, _+_, _*_, _/_}
 use native.Mathlib.Omega.{arith}
 use borrow.Author.Needs.{needs}
+use lib.ListN.{getD}
 use Rattle.base.specs.Position.{toN}
 use Rattle.base.proofs.Lift.{Start}
 use Rattle.base.proofs.Painted.{paint-same}
-use Rattle.samples.specs.Sample.{across}
+use Rattle.blocks.specs.Sample.{across}
 use Rattle.planes.specs.Plane.{lent, fits}
-use Rattle.samples.specs.Call.{ref}
-use Rattle.samples.proofs.Accepted.{Facts, legal-says}
-use Rattle.samples.proofs.Depths.{depth-top}
-use Rattle.samples.proofs.Bridge.{bridge}
+use Rattle.blocks.specs.Block.{ref}
+use Rattle.taps.specs.Kernel.{meanOf}
+use Rattle.passes.specs.Lifted.{meanWith}
+use Rattle.blocks.proofs.Facts.{Facts, legal-says}
+use Rattle.blocks.proofs.Depths.{depth-top}
+use Rattle.blocks.proofs.Bridge.{bridge}
 use Rattle.base.proofs.Casts.{read-back}
-use Rattle.samples.proofs.block_inter_pred.predict_one.Statement.{statement}
-use Rattle.samples.proofs.block_inter_pred.predict_one.Tie as tie
+use Rattle.blocks.proofs.block.predict_two.Statement.{statement}
+use Rattle.blocks.proofs.block.predict_two.Tie as tie
 
 -- the arguments are known to be in range where a width has been read
 abbrev entry : tie.After-natural → tie.Start
@@ -43,9 +47,9 @@ natural-requires-4 c κs = search needs
 top-requires : tie.Need-top-requires
 top-requires c κs = search needs
 
-block-requires : tie.Need-block-requires
+block-mean-requires : tie.Need-block-mean-requires
 unfolding fits
-block-requires c κs =
+block-mean-requires c κs =
     let t = c .before .before in
     let n4 = t .before in
     let l2 = n4 .before .before in
@@ -76,6 +80,7 @@ same-length-2 : tie.Need-same-length-2
 same-length-2 c = search needs
 
 returns : tie.Need-returns
+unfolding meanWith meanOf
 returns c =
     let b1 = c .before .before .before in
     let b = b1 .before in
@@ -94,13 +99,14 @@ returns c =
     let eh = n2 .natural2 .ensures ∙ ap toN (read-back (a .geom .height) (g .1 .0 .1)) in
     let ex = n3 .natural3 .ensures ∙ ap toN (read-back (a .from .«step_x» .0) (z .1 .1 .0 .1 .1 .0 .1)) in
     let ey = n4 .natural4 .ensures ∙ ap toN (read-back (a .from .«step_y» .0) (z .1 .1 .1 .0 .1 .1 .0 .1)) in
-    rw (ew, eh, ex, ey) at (b .block .ensures)
+    rw (ew, eh, ex, ey) at (b .block-mean .ensures)
     ∙ paint-same _ _ _ _ _ _
     (λ r k rh kw.
-    bridge (a .shape) (a .geom) (a .from) (a .upper .now) (a .lower .now) _ _ _ r k (t .top .ensures) (l1 .lift .ensures .0) (l2 .lift2 .ensures .0))
+    ap (λ (v : ℕ). (getD (a .out .now) (r * a .stride + k) 0 + v + 1) / 2)
+    (bridge (a .shape) (a .geom) (a .from) (a .upper .now) (a .lower .now) _ _ _ r k (t .top .ensures) (l1 .lift .ensures .0) (l2 .lift2 .ensures .0)))
 
-pub predict-one-spec : {M : Type 1} → statement M
-predict-one-spec =
+pub predict-two-spec : {M : Type 1} → statement M
+predict-two-spec =
     tie.close
     (tie.spec
     natural-requires
@@ -110,7 +116,7 @@ predict-one-spec =
     lift-requires-2
     natural-requires-4
     top-requires
-    block-requires
+    block-mean-requires
     same-length
     same-length-2
     returns)

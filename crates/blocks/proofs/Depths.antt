@@ -6,8 +6,8 @@ use native.Mathlib.Omega.{arith}
 use borrow.Author.Tests.{eqb-true}
 use lib.Dec.{leb, eqb}
 use Rattle.base.proofs.Tests.{clash, and-both}
-use Rattle.samples.specs.Call.{kind}
-use Rattle.samples.specs.declared.block_inter_pred.BlockShape.{BlockShape}
+use Rattle.blocks.specs.Block.{kind}
+use Rattle.blocks.specs.declared.block.BlockShape.{BlockShape}
 
 known : (P : ℕ → Type 0) (d n : ℕ) → eqb d n ≡ true → P n → P d
 known P d n e h = rw (eqb-true d n e) h

@@ -1,13 +1,13 @@
--- `samples::block_inter_pred::top` meets its contract: 12 bits less those that the depth lacks. Assumes nothing.
+-- `blocks::block::top` meets its contract: 12 bits less those that the depth lacks. Assumes nothing.
 use mathlib.Core.Path.{_≡_, refl}
 use Prim.Native.Nat.{ℕ, _-_, _/_, _^_, _≤_}
 use native.Mathlib.Omega.{arith}
 use mir.Syntax.{w16}
 use mir.Val.{Fits}
 use borrow.Author.Needs.{needs}
-use Rattle.samples.proofs.Depths.{by-depth}
-use Rattle.samples.proofs.block_inter_pred.top.Statement.{statement}
-use Rattle.samples.proofs.block_inter_pred.top.Tie as tie
+use Rattle.blocks.proofs.Depths.{by-depth}
+use Rattle.blocks.proofs.block.top.Statement.{statement}
+use Rattle.blocks.proofs.block.top.Tie as tie
 
 sub-result : tie.Need-sub-result
 sub-result c = let s = c .before in by-depth (λ (d : ℕ). d ≤ 12) (s .args .shape) (s .pre) (omega arith) (omega arith) (omega arith)

@@ -1,14 +1,14 @@
--- `samples::block_inter_pred::predict_accepted` meets its contract: list 0, and list 1 on top of it where it is averaged. Assumes nothing.
+-- `blocks::block::predict_accepted` meets its contract: list 0, and list 1 on top of it where it is averaged. Assumes nothing.
 use mathlib.Core.Path.{ap, _∙_}
 use native.Mathlib.Omega.{arith}
 use borrow.Author.Needs.{needs}
 use lib.ListN.{length}
 use Rattle.base.proofs.Painted.{length-paint}
 use Rattle.planes.specs.Plane.{lent}
-use Rattle.samples.specs.Call.{ref, Call, call}
-use Rattle.samples.proofs.Accepted.{Taken, accepted, painted-one, painted-two}
-use Rattle.samples.proofs.block_inter_pred.predict_accepted.Statement.{statement}
-use Rattle.samples.proofs.block_inter_pred.predict_accepted.Tie as tie
+use Rattle.blocks.specs.Block.{ref, Call, call}
+use Rattle.blocks.proofs.Facts.{painted-one, painted-two}
+use Rattle.blocks.proofs.block.predict_accepted.Statement.{statement}
+use Rattle.blocks.proofs.block.predict_accepted.Tie as tie
 
 abbrev asked : tie.Start → Call
 asked s =
@@ -19,15 +19,12 @@ asked s =
 abbrev entry : tie.After-predict-one → tie.Start
 entry c = let a = c .before .before .before in let b = a .before .before .before in b .before .before .before
 
-taken : (s : tie.Start) → Taken (asked s) (length (s .args .out .now)) (length (s .args .room .now))
-taken s = accepted (asked s) _ _ (s .pre)
-
 predict-one-requires : tie.Need-predict-one-requires
 predict-one-requires c κs =
     let s1 = c .before .before .before in
     let s2 = s1 .before .before .before in
     let s = s2 .before .before in
-    let t = taken s in
+    let t = s .pre in
     (t .one, (t .out, t .room))
 
 predict-two-requires : tie.Need-predict-two-requires
@@ -36,7 +33,7 @@ predict-two-requires c κs =
     let o1 = i .before .before .before in
     let o = o1 .before .before in
     let s = entry o in
-    let t = taken s in
+    let t = s .pre in
     let long = ap length (o .predict-one .ensures) ∙ length-paint _ _ _ _ _ in
     (t .two (i .if1 .taken), (rw long (t .out), omega (arith, t .room), t .apart))
 
@@ -55,7 +52,7 @@ returns c =
     let o = o1 .before .before in
     let s = entry o in
     let a = s .args in
-    let t = taken s in
+    let t = s .pre in
     rw (o .predict-one .ensures) at (p .predict-two .ensures) ∙ painted-two (asked s) (a .out .now) _ t (i .if1 .taken)
 
 same-length-3 : tie.Need-same-length-3

@@ -7,14 +7,14 @@ use Rattle.base.specs.Position.{toN, mod16, along, place}
 use Rattle.base.proofs.Lift.{Diff, Lifted, lifted, diff-along, place-lifted}
 use Rattle.taps.specs.Taps.{tap}
 use Rattle.taps.specs.Filter.{filtered}
-use Rattle.samples.specs.Sample.{across, sample}
+use Rattle.blocks.specs.Sample.{across, sample}
 use Rattle.planes.specs.Plane.{Lent, lent, plane, widthOf, heightOf}
-use Rattle.samples.specs.Call.{ref, fromRef}
+use Rattle.blocks.specs.Block.{ref, fromRef}
 use Rattle.taps.specs.Kernel.{seat, level}
 use Rattle.passes.specs.Lifted.{blockAt}
 use Rattle.planes.specs.Plane.{view}
-use Rattle.samples.specs.declared.block_inter_pred.BlockShape.{BlockShape}
-use Rattle.samples.specs.declared.block_inter_pred.Stepping.{Stepping}
+use Rattle.blocks.specs.declared.block.BlockShape.{BlockShape}
+use Rattle.blocks.specs.declared.block.Stepping.{Stepping}
 use Rattle.planes.specs.declared.plane.PlaneGeom.{PlaneGeom}
 use Rattle.taps.proofs.Filtered.{filtered-same, samples-same}
 

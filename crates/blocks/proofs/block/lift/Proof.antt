@@ -1,10 +1,10 @@
--- `samples::block_inter_pred::lift` meets its contract: an accepted start is far from the ends of its width. Assumes nothing.
+-- `blocks::block::lift` meets its contract: an accepted start is far from the ends of its width. Assumes nothing.
 use native.Mathlib.Omega.{arith}
 use mir.Syntax.{w32, w64}
 use Rattle.base.proofs.Lift.{start}
 use Rattle.base.proofs.Casts.{sum-fits, lift-casts, lift-gives}
-use Rattle.samples.proofs.block_inter_pred.lift.Statement.{statement}
-use Rattle.samples.proofs.block_inter_pred.lift.Tie as tie
+use Rattle.blocks.proofs.block.lift.Statement.{statement}
+use Rattle.blocks.proofs.block.lift.Tie as tie
 
 add-result : tie.Need-add-result
 add-result c =
