@@ -1,14 +1,17 @@
 /* Runs the same inputs through Knobspindle and through the Rust, in one program, and compares what they give. See tools/speed.
  *
- *   speed              every case on both sides, compared; then once more with a line before and after each call, for a trace to be cut at
- *   speed list         the cases: number, group, name
- *   speed N SIDE REPS  case N on one side (ours or rust), REPS times
+ *   speed        every case on both sides, compared; then once more with a line before and after each call, for a trace to be cut at
+ *   speed steps  the same under tools/steps.c, which counts between the two lines
+ *   speed list   the cases: group, name
+ *   speed time   nanoseconds of a call: side, case, time
  */
 #include "knobspindle.h"
 #include "rust_search.h"
+#include "steps.h"
 #include <stdio.h>
 #include <stdlib.h>
 #include <string.h>
+#include <time.h>
 #include <unistd.h>
 
 #define NEVER_INLINE __attribute__((noinline))
@@ -289,10 +292,8 @@ static bool same(void)
 
 /* ---- what is done with a case */
 
-static int wanted = -1, number, differ;
-static const char *wanted_side;
-static int reps;
-static bool list, trace;
+static int number, differ;
+static bool list, timing, stepped;
 
 static void mark(const char *line)
 {
@@ -310,21 +311,46 @@ static void traced(const char *side, const char *name, void (*run)(void))
     char line[100];
     snprintf(line, sizeof line, "@%s %s\n", side, name);
     mark(line);
+    if (stepped)
+        begun();
     run();
+    ended();
     mark("@end\n");
+}
+
+static long nanoseconds(void (*run)(void), long calls)
+{
+    struct timespec first, last;
+    clock_gettime(CLOCK_MONOTONIC, &first);
+    for (long i = 0; i < calls; i++)
+        run();
+    clock_gettime(CLOCK_MONOTONIC, &last);
+    return (last.tv_sec - first.tv_sec) * 1000000000 + last.tv_nsec - first.tv_nsec;
+}
+
+/* The least of some batches, each of so many calls that it takes two milliseconds. */
+static void timed(const char *side, const char *name, void (*run)(void))
+{
+    long calls = 1, least = 0;
+    while (nanoseconds(run, calls) < 2000000)
+        calls *= 2;
+    for (int i = 0; i < 15; i++) {
+        long one = nanoseconds(run, calls) * 10 / calls;
+        least = i && least < one ? least : one;
+    }
+    printf("%s ns\t%s\t%ld.%ld\n", side, name, least / 10, least % 10);
 }
 
 static void one_case(const char *group, const char *name, void (*ours)(void), void (*rust)(void))
 {
-    int n = number++;
+    number++;
     if (list) {
-        printf("%d\t%s\t%s\n", n, group, name);
+        printf("%s\t%s\n", group, name);
         return;
     }
-    if (wanted >= 0) {
-        void (*run)(void) = strcmp(wanted_side, "ours") ? rust : ours;
-        for (int i = 0; n == wanted && i < reps; i++)
-            run();
+    if (timing) {
+        timed("ours", name, ours);
+        timed("rust", name, rust);
         return;
     }
     fill_outputs();
@@ -334,10 +360,8 @@ static void one_case(const char *group, const char *name, void (*ours)(void), vo
         differ++;
         printf("DIFFERENT: %s: our answer is %u\n", name, answer);
     }
-    if (trace) {
-        traced("ours", name, ours);
-        traced("rust", name, rust);
-    }
+    traced("ours", name, ours);
+    traced("rust", name, rust);
 }
 
 /* ---- the cases */
@@ -474,13 +498,9 @@ static void predictions(void)
 int main(int argc, char **argv)
 {
     list = argc == 2 && !strcmp(argv[1], "list");
-    trace = argc == 1;
-    if (argc == 4) {
-        wanted = atoi(argv[1]);
-        wanted_side = argv[2];
-        reps = atoi(argv[3]);
-    }
-    if (trace) {
+    timing = argc == 2 && !strcmp(argv[1], "time");
+    stepped = argc == 2 && !strcmp(argv[1], "steps");
+    if (!list && !timing) {
         traced("nothing", "nothing", nothing); /* the first print is dearer than the next */
         traced("empty", "empty", nothing);
     }
@@ -494,7 +514,7 @@ int main(int argc, char **argv)
 #ifdef HAVE_knobspindle_predict_inter
     predictions();
 #endif
-    if (!list && wanted < 0)
+    if (!list && !timing)
         printf("%d cases, %d differences\n", number, differ);
     return differ != 0;
 }

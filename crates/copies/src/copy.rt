@@ -58,6 +58,18 @@ fn row_sixteens(l: &[u16], b: usize, w: usize, max: u16, out: &mut [u16], at: us
     }
 }
 
+// The widest row: its turns are known in number, and the compiler lays them out.
+fn sixty_four(l: &[u16], b: usize, max: u16, out: &mut [u16], at: usize)
+    requires { ⌜ (b + 64 ≤ length (now l)) × (at + 64 ≤ length (now out)) ⌝ }
+    ensures { λ _. ⌜ now (out .exit) ≡ fill (now (out .entry)) at 64 (clipped max (now (l .entry)) b) ⌝ }
+{
+    let mut c = 0;
+    while c < 64 {
+        eight(l, b + c, max, out, at + c);
+        c += 8;
+    }
+}
+
 // The usual widths have a shape of their own.
 fn row_copied(l: &[u16], b: usize, w: usize, max: u16, out: &mut [u16], at: usize)
     requires { ⌜ (b + w ≤ length (now l)) × (at + w ≤ length (now out)) ⌝ }
@@ -69,6 +81,10 @@ fn row_copied(l: &[u16], b: usize, w: usize, max: u16, out: &mut [u16], at: usiz
     }
     if w == 8 {
         eight(l, b, max, out, at);
+        return;
+    }
+    if w == 64 {
+        sixty_four(l, b, max, out, at);
         return;
     }
     if w % 16 == 0 {

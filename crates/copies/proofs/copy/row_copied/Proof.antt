@@ -33,23 +33,38 @@ returns-2 c =
     let e : s .args .w ≡ 8 = omega arith in
     rw e (f .eight .ensures)
 
-row-sixteens-requires : tie.Need-row-sixteens-requires
-row-sixteens-requires c κs = search needs
+sixty-four-requires : tie.Need-sixty-four-requires
+sixty-four-requires c κs = search needs
 
 same-length-3 : tie.Need-same-length-3
 same-length-3 c = search needs
 
 returns-3 : tie.Need-returns-3
-returns-3 c = search needs
+returns-3 c =
+    let f = c .before .before in
+    let z = f .before .before .before in
+    let y = z .before .before in
+    let s = y .before .before in
+    let e : s .args .w ≡ 64 = omega arith in
+    rw e (f .sixty-four .ensures)
 
-row-clipped-requires : tie.Need-row-clipped-requires
-row-clipped-requires c κs = search needs
+row-sixteens-requires : tie.Need-row-sixteens-requires
+row-sixteens-requires c κs = search needs
 
 same-length-4 : tie.Need-same-length-4
 same-length-4 c = search needs
 
 returns-4 : tie.Need-returns-4
 returns-4 c = search needs
+
+row-clipped-requires : tie.Need-row-clipped-requires
+row-clipped-requires c κs = search needs
+
+same-length-5 : tie.Need-same-length-5
+same-length-5 c = search needs
+
+returns-5 : tie.Need-returns-5
+returns-5 c = search needs
 
 pub row-copied-spec : {M : Type 1} → statement M
 row-copied-spec =
@@ -61,9 +76,12 @@ row-copied-spec =
     eight-requires
     same-length-2
     returns-2
-    row-sixteens-requires
+    sixty-four-requires
     same-length-3
     returns-3
-    row-clipped-requires
+    row-sixteens-requires
     same-length-4
-    returns-4)
+    returns-4
+    row-clipped-requires
+    same-length-5
+    returns-5)

@@ -1,0 +1,1 @@
+#define SIGTRAP 5

@@ -1,0 +1,1 @@
+int waitpid(int, int *, int);
