@@ -4,7 +4,7 @@
  *
  * Built with MEASURE (tools/speed-traces does), 'SIDE TIMES' makes each search TIMES times and compares nothing: SIDE is ours, rust, judged
  * (ours with the record that is judged last made illegal, so that the call ends when all records have been judged) or short (ours with a
- * table one short, so that the call ends before a record is judged).
+ * table one short, so that the call ends before a record is judged). TIMES 0 makes it once, for tools/steps.c to count.
  */
 #include "trace.h"
 
@@ -83,6 +83,7 @@ static bool search_agrees(void) {
 
 #ifdef MEASURE
 #include "rust_search.h"
+#include "steps.h"
 
 static knobspindle_mv_refs ours(size_t lent) {
     return knobspindle_find_mv_refs(modes, lent, frames, 2 * a.cells, mvs, 4 * a.cells, subs, 16 * a.cells, prev_frames, 2 * a.cells,
@@ -104,9 +105,11 @@ static bool measured(char side, int times) {
     int8_t kept = *last;
     if (side == 'j') *last = 4;
     uint32_t want = side == 'j' ? KNOBSPINDLE_RECORD : side == 's' ? KNOBSPINDLE_SHORT : KNOBSPINDLE_ACCEPTED;
-    for (int i = 0; i < times; i++) {
+    for (int i = 0; i < times || i < 1; i++) {
+        if (times == 0) begun();
         if (side == 'r') rust();
         else if (ours(a.cells - (side == 's')).answer != want) printf("trace: a measured call answered otherwise\n");
+        ended();
     }
     *last = kept;
     return true;

@@ -328,17 +328,24 @@ static long nanoseconds(void (*run)(void), long calls)
     return (last.tv_sec - first.tv_sec) * 1000000000 + last.tv_nsec - first.tv_nsec;
 }
 
-/* The least of some batches, each of so many calls that it takes two milliseconds. */
-static void timed(const char *side, const char *name, void (*run)(void))
+static long so_many(void (*run)(void)) /* calls that take two milliseconds */
 {
-    long calls = 1, least = 0;
+    long calls = 1;
     while (nanoseconds(run, calls) < 2000000)
         calls *= 2;
+    return calls;
+}
+
+/* The least of some batches of each side, the two in turn, since a machine is not equally fast all the time. */
+static void timed(const char *name, void (*ours)(void), void (*rust)(void))
+{
+    long n = so_many(ours), m = so_many(rust), least = 0, least_rust = 0;
     for (int i = 0; i < 15; i++) {
-        long one = nanoseconds(run, calls) * 10 / calls;
+        long one = nanoseconds(ours, n) / n, other = nanoseconds(rust, m) / m;
         least = i && least < one ? least : one;
+        least_rust = i && least_rust < other ? least_rust : other;
     }
-    printf("%s ns\t%s\t%ld.%ld\n", side, name, least / 10, least % 10);
+    printf("ours ns\t%s\t%ld\nrust ns\t%s\t%ld\n", name, least, name, least_rust);
 }
 
 static void one_case(const char *group, const char *name, void (*ours)(void), void (*rust)(void))
@@ -349,8 +356,7 @@ static void one_case(const char *group, const char *name, void (*ours)(void), vo
         return;
     }
     if (timing) {
-        timed("ours", name, ours);
-        timed("rust", name, rust);
+        timed(name, ours, rust);
         return;
     }
     fill_outputs();

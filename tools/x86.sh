@@ -1,5 +1,6 @@
 # To be sourced: C programs for x86-64, built with the Rattle kit alone and run on x86-64 or, under the kit's emulator, on Arm.
-# Functions: x86_library; x86_cc SOURCE OBJECT [WORDS..]; x86_link PROGRAM FILE..; x86_run PROGRAM [WORDS..]. x86_emulator is empty on x86-64.
+# Functions: x86_library; x86_cc SOURCE OBJECT [WORDS..]; x86_link PROGRAM FILE..; x86_run PROGRAM [WORDS..]. x86_emulator is empty on x86-64, and
+# there x86_stepper STEPPER builds tools/steps.c and x86_steps STEPPER PROGRAM [WORDS..] runs a program under it.
 
 command -v rt >/dev/null || { echo "the Rattle kit's rt is not on the PATH" >&2; exit 2; }
 x86_root=$(git rev-parse --show-toplevel)
@@ -38,6 +39,17 @@ x86_link() { # the program's own object first, archives after it
 
 x86_run() {
     ${x86_emulator:+"$x86_emulator"} "$x86_loader" --library-path "$x86_tools/lib" "$@"
+}
+
+x86_stepper() {
+    x86_cc "$x86_root/tools/steps.c" "$1.o"
+    x86_link "$1" "$1.o"
+}
+
+x86_steps() {
+    x86_stepped=$1
+    shift
+    x86_run "$x86_stepped" "$x86_loader" --library-path "$x86_tools/lib" "$@"
 }
 
 x86_exports() { # the kit has no nm; our C names occur nowhere else in an archive

@@ -4,6 +4,7 @@ ghost use Prim.Native.Nat.{_+_, _-_, _*_, _/_, _%_, _≤_, _<_, min};
 ghost use Rattle.taps.specs.Kernel.{IsTaps, joinedSums, lowOne, lowSum, lowTap, products, raisedOne, wideOne};
 use taps::Taps;
 use taps::lesser;
+use taps::topped;
 
 fn wide(x: u16) -> u32
     ensures { λ r. ⌜ (r ≡ x) × (r < 65536) ⌝ }
@@ -105,12 +106,19 @@ fn lessened(s: u16, n: u16) -> u16
     if s < n { 0 } else { s - n }
 }
 
+// By a choice, which the compiler makes shorter where it knows how large the number can be.
+fn byte(x: u16) -> u16
+    ensures { λ r. ⌜ r ≡ min x 255 ⌝ }
+{
+    if x < 255 { x } else { 255 }
+}
+
 // Rounded and held to 8 bits. Nothing is lost, since no sum with the 64 leaves -16,384..49,151; the floor comes before the division.
 fn rounded_low(s: u64) -> u16
     requires { ⌜ s ≤ 34358689800 ⌝ }
     ensures { λ r. ⌜ r ≡ min (((s + 16448) % 65536 - 16384) / 128) 255 ⌝ }
 {
-    lesser(lessened(((s + 16448) % 65536) as u16, 16384) / 128, 255)
+    byte(lessened(((s + 16448) % 65536) as u16, 16384) / 128)
 }
 
 pub fn one_low(p: Taps, a: u16, b: u16, c: u16, d: u16, e: u16, f: u16, g: u16, h: u16) -> u16
@@ -124,13 +132,6 @@ fn high(x: u16) -> u16
     ensures { λ r. ⌜ r ≡ x / 256 ⌝ }
 {
     x / 256
-}
-
-// A sum that stops at 65,535.
-fn topped(a: u16, b: u16) -> u16
-    ensures { λ r. ⌜ r ≡ min (a + b) 65535 ⌝ }
-{
-    if 65535 - b < a { 65535 } else { a + b }
 }
 
 // The result from x, the sum of eight samples' high bytes, and z, the sum of the samples: z less 256 times x is the sum of the low bytes.

@@ -7,6 +7,7 @@ pub use plain::lesser;
 pub use plain::row_averaged;
 pub use plain::row_clipped;
 pub use plain::run_copied;
+pub use plain::topped;
 pub use taps::Taps;
 pub use taps::subpel_filters;
 pub use taps::taps_at;

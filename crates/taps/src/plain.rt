@@ -5,18 +5,19 @@ ghost use mathlib.Core.Path.{_≡_};
 ghost use Prim.Native.Nat.{_+_, _/_, _≤_, min};
 ghost use lib.ListN.{length};
 
-fn sum_held(a: u16, b: u16) -> u16
+// A sum that stops at 65,535.
+pub fn topped(a: u16, b: u16) -> u16
     ensures { λ r. ⌜ r ≡ min (a + b) 65535 ⌝ }
 {
     if 65535 - b < a { 65535 } else { a + b }
 }
 
-// Up to where a sum is held and down again: eight samples take two instructions so, and three by a comparison.
+// Up to where a sum stops, and down again: for eight numbers at once that is two instructions, and a choice is three.
 pub fn lesser(a: u16, b: u16) -> u16
     ensures { λ r. ⌜ r ≡ min a b ⌝ }
 {
     let up = 65535 - b;
-    sum_held(a, up) - up
+    topped(a, up) - up
 }
 
 pub fn fewer(a: usize, b: usize) -> usize

@@ -14,11 +14,11 @@ cast-lessened c = search needs
 lessened-requires : tie.Need-lessened-requires
 lessened-requires c κs = search needs
 
-lesser-requires : tie.Need-lesser-requires
-lesser-requires c κs = search needs
+byte-requires : tie.Need-byte-requires
+byte-requires c κs = search needs
 
 returns : tie.Need-returns
-returns c = c .lesser .ensures ∙ ap (λ (x : ℕ). min (x / 128) 255) (c .before .lessened .ensures)
+returns c = c .byte .ensures ∙ ap (λ (x : ℕ). min (x / 128) 255) (c .before .lessened .ensures)
 
 pub rounded-low-spec : {M : Type 1} → statement M
-rounded-low-spec = tie.close (tie.spec add-lessened cast-lessened lessened-requires lesser-requires returns)
+rounded-low-spec = tie.close (tie.spec add-lessened cast-lessened lessened-requires byte-requires returns)
