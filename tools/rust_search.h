@@ -1,4 +1,4 @@
-/* The Rust's candidate search as tools/speed_rust exports it: its arguments, and the pair and the context that it gives. */
+/* The Rust's calls on candidates as tools/speed_rust exports them: their arguments, and the pair (and the context) that they give. */
 #include <stdbool.h>
 #include <stddef.h>
 #include <stdint.h>
@@ -15,3 +15,5 @@ struct search {
 };
 
 void rust_find_mv_refs(const struct search *, int32_t out[5]);
+void rust_append_sub8x8_mvs(const struct search *, const knobspindle_mv own[4], int32_t out[4]);
+void rust_find_best_ref_mvs(const struct search *, const knobspindle_mv pair[2], bool high, int32_t out[4]);

@@ -159,15 +159,60 @@ static int8_t frames[2 * CELLS], prev_frames[2 * CELLS];
 static int16_t mvs[4 * CELLS], subs[16 * CELLS], prev_mvs[4 * CELLS];
 static struct search search_args;
 
+static knobspindle_sub_mvs own_mvs = {{{10, -20}, {-3, 1}, {320, -77}, {0, 2}}};
+static const knobspindle_mv best_pair[2] = {{-77, 4001}, {30, -15}};
+static bool high_precision;
+
+static inline knobspindle_mv_ref_geometry search_geometry(const struct search *a)
+{
+    return (knobspindle_mv_ref_geometry){a->mi_row, a->mi_col, a->mi_rows, a->mi_cols, a->size, a->tile_start, a->tile_end};
+}
+
+static inline knobspindle_sign_bias search_bias(const struct search *a)
+{
+    knobspindle_sign_bias bias;
+    memcpy(&bias, a->sign_bias, sizeof bias);
+    return bias;
+}
+
+static inline void give_pair(knobspindle_mv_pair r)
+{
+    answer = r.answer;
+    given[OURS][0] = r.first.row;
+    given[OURS][1] = r.first.col;
+    given[OURS][2] = r.second.row;
+    given[OURS][3] = r.second.col;
+}
+
+static NEVER_INLINE void ours_append(void)
+{
+    const struct search *a = &search_args;
+    give_pair(knobspindle_append_sub8x8_mvs(a->modes, CELLS, a->frames, 2 * CELLS, a->vectors, 4 * CELLS, a->sub_vectors, 16 * CELLS,
+                                            a->prev_frames, 2 * CELLS, a->prev_vectors, 4 * CELLS, search_geometry(a), (size_t)a->block,
+                                            a->target, own_mvs, search_bias(a), a->use_prev));
+}
+
+static NEVER_INLINE void rust_append(void)
+{
+    rust_append_sub8x8_mvs(&search_args, own_mvs.mvs, given[RUST]);
+}
+
+static NEVER_INLINE void ours_best(void)
+{
+    give_pair(knobspindle_find_best_ref_mvs(search_geometry(&search_args), best_pair[0], best_pair[1], high_precision));
+}
+
+static NEVER_INLINE void rust_best(void)
+{
+    rust_find_best_ref_mvs(&search_args, best_pair, high_precision, given[RUST]);
+}
+
 static NEVER_INLINE void ours_search(void)
 {
     const struct search *a = &search_args;
-    knobspindle_mv_ref_geometry g = {a->mi_row, a->mi_col, a->mi_rows, a->mi_cols, a->size, a->tile_start, a->tile_end};
-    knobspindle_sign_bias bias;
-    memcpy(&bias, a->sign_bias, sizeof bias);
     knobspindle_mv_refs r = knobspindle_find_mv_refs(a->modes, CELLS, a->frames, 2 * CELLS, a->vectors, 4 * CELLS, a->sub_vectors,
-                                                     16 * CELLS, a->prev_frames, 2 * CELLS, a->prev_vectors, 4 * CELLS, g, a->target,
-                                                     a->block, bias, a->use_prev);
+                                                     16 * CELLS, a->prev_frames, 2 * CELLS, a->prev_vectors, 4 * CELLS,
+                                                     search_geometry(a), a->target, a->block, search_bias(a), a->use_prev);
     answer = r.answer;
     given[OURS][0] = r.first.row;
     given[OURS][1] = r.first.col;
@@ -404,8 +449,17 @@ static void searches(void)
     search_args.size = 0;
     search_args.block = 1;
     one_case("search", "many different vectors, 4x4, sub-block 1", ours_search, rust_search);
+    for (int b = 0; b < 4; b++) {
+        static const char *const names[] = {"append_sub8x8_mvs, sub-block 0", "append_sub8x8_mvs, sub-block 1", "append_sub8x8_mvs, sub-block 2",
+                                            "append_sub8x8_mvs, sub-block 3"};
+        search_args.block = b;
+        one_case("lists", names[b], ours_append, rust_append);
+    }
     search_args.size = 6;
     search_args.block = -1;
+    one_case("lists", "find_best_ref_mvs, lowered", ours_best, rust_best);
+    high_precision = true;
+    one_case("lists", "find_best_ref_mvs, high precision", ours_best, rust_best);
     fill_tables(1);
     one_case("search", "one vector everywhere, 16x16", ours_search, rust_search);
     for (int i = 0; i < CELLS; i++) {

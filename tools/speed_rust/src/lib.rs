@@ -244,35 +244,61 @@ impl MvCandidateSource for Lent<'_> {
     }
 }
 
+impl Search {
+    /// # Safety
+    /// Each table holds what document 01 asks of mi_rows x mi_cols cells.
+    unsafe fn tables(&self) -> Lent<'_> {
+        let n = (self.mi_rows * self.mi_cols) as usize;
+        unsafe {
+            Lent {
+                cols: self.mi_cols,
+                modes: from_raw_parts(self.modes, n),
+                frames: from_raw_parts(self.frames, 2 * n),
+                vectors: from_raw_parts(self.vectors, 4 * n),
+                sub_vectors: from_raw_parts(self.sub_vectors, 16 * n),
+                prev_frames: from_raw_parts(self.prev_frames, 2 * n),
+                prev_vectors: from_raw_parts(self.prev_vectors, 4 * n),
+            }
+        }
+    }
+
+    fn geometry(&self) -> MvRefGeometry {
+        MvRefGeometry {
+            mi_row: self.mi_row,
+            mi_col: self.mi_col,
+            mi_rows: self.mi_rows,
+            mi_cols: self.mi_cols,
+            mi_size: self.size,
+            mi_col_start: self.tile_start,
+            mi_col_end: self.tile_end,
+        }
+    }
+}
+
 /// The two vectors and the context.
 /// # Safety
-/// As above; each table holds what document 01 asks of mi_rows x mi_cols cells.
+/// As above; the tables as said there.
 #[unsafe(no_mangle)]
 pub unsafe extern "C" fn rust_find_mv_refs(a: &Search, out: &mut [i32; 5]) {
-    let n = (a.mi_rows * a.mi_cols) as usize;
-    let source = unsafe {
-        Lent {
-            cols: a.mi_cols,
-            modes: from_raw_parts(a.modes, n),
-            frames: from_raw_parts(a.frames, 2 * n),
-            vectors: from_raw_parts(a.vectors, 4 * n),
-            sub_vectors: from_raw_parts(a.sub_vectors, 16 * n),
-            prev_frames: from_raw_parts(a.prev_frames, 2 * n),
-            prev_vectors: from_raw_parts(a.prev_vectors, 4 * n),
-        }
-    };
-    let geometry = MvRefGeometry {
-        mi_row: a.mi_row,
-        mi_col: a.mi_col,
-        mi_rows: a.mi_rows,
-        mi_cols: a.mi_cols,
-        mi_size: a.size,
-        mi_col_start: a.tile_start,
-        mi_col_end: a.tile_end,
-    };
-    let found = geometry.find_mv_refs(&source, a.target, a.block, &a.sign_bias, a.use_prev);
+    let source = unsafe { a.tables() };
+    let found = a.geometry().find_mv_refs(&source, a.target, a.block, &a.sign_bias, a.use_prev);
     let [first, second] = found.ref_list_mv;
     *out = [first[0], first[1], second[0], second[1], i32::from(found.mode_context)];
+}
+
+/// # Safety
+/// As above.
+#[unsafe(no_mangle)]
+pub unsafe extern "C" fn rust_append_sub8x8_mvs(a: &Search, own: &[[i32; 2]; 4], out: &mut [[i32; 2]; 2]) {
+    let source = unsafe { a.tables() };
+    *out = a.geometry().append_sub8x8_mvs(&source, a.block as usize, a.target, own, &a.sign_bias, a.use_prev);
+}
+
+/// # Safety
+/// As above; no table is looked at.
+#[unsafe(no_mangle)]
+pub unsafe extern "C" fn rust_find_best_ref_mvs(a: &Search, pair: &[[i32; 2]; 2], high: bool, out: &mut [[i32; 2]; 2]) {
+    *out = a.geometry().find_best_ref_mvs(*pair, high);
 }
 
 /// A plane in one piece, rows in one window: the shortest way through the Rust.
