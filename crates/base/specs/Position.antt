@@ -1,5 +1,5 @@
 -- Positions in sixteenths of a sample, on whole numbers of either sign: document 01, 'Samples'. Assumes nothing.
-use Prim.Native.Nat.{ℕ, _+_, _-_, _*_, _/_, _%_, min}
+use Prim.Native.Nat.{ℕ, _-_, _*_, _/_, _%_, min}
 use lib.IntN.{ℤ, pos, negsuc, _+ℤ_, _-ℤ_}
 
 -- z, or 0 where z is below 0

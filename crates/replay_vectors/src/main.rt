@@ -1,5 +1,5 @@
 // Replays stored cases of select_mv, clamp_mv and scale_mv: standard input is files of oracle/'s cases, one after the other. A line a file.
-ghost use Prim.Native.Nat.{_<_, _≤_};
+ghost use Prim.Native.Nat.{_<_};
 use base::Eighth;
 use base::Mv;
 use base::PlaneMv;

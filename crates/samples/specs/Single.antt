@@ -1,13 +1,12 @@
 -- Internal: a call with one reference, whose number the code asks for first. No definition that a caller reads cites this file.
 -- Assumes nothing.
 use Prim.Native.Nat.{ℕ, min}
-use mathlib.Core.Path.{_≡_}
-use mathlib.Core.Bool.{true, _&&_, cond}
+use mathlib.Core.Bool.{_&&_, cond}
 use mathlib.Core.List.{[], _∷_}
 use lib.Dec.{eqb}
 use Rattle.base.specs.Answer.{row, answer, BLOCK, FILTER, SIZE, START, SHORT}
 use Rattle.base.specs.Number.{within}
-use Rattle.planes.specs.Plane.{lent, plane, sized, fits}
+use Rattle.planes.specs.Plane.{sized, fits}
 use Rattle.samples.specs.Call.{Ref, call, kind, starts, outFits}
 use Rattle.blocks.specs.declared.block.BlockShape.{BlockShape}
 
