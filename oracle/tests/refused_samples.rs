@@ -440,3 +440,13 @@ fn predict_list_1_unused() {
     a.average = true;
     assert_panics(&beyond(0, -1), || predict(&a));
 }
+
+/// Nor are its bands joined: so many rows as these could not be.
+#[test]
+fn predict_list_1_not_joined() {
+    let mut a = prediction();
+    (a.refs[1].bands.stride, a.refs[1].bands.upper_rows) = (1, usize::MAX);
+    assert_eq!(predict(&a)[7], 7);
+    a.average = true;
+    assert_panics("capacity overflow", || predict(&a));
+}

@@ -134,7 +134,7 @@ impl Staged for Predict {
         w.len(q.room);
         let mut dst: Vec<u16> = (0..q.dst).map(before).collect();
         if number == 0 {
-            predict(args, above, &mut dst);
+            predict(&args, above, &mut dst);
         }
         let run = write_output(number, &dst, w);
         run.iter().for_each(|&s| w.u16(s));
@@ -181,16 +181,12 @@ fn write_args(q: &Query, w: &mut Writer) {
     w.bool(a.average);
 }
 
-/// As in block prediction: above the depth the definition answers, not the Rust. What list 1 lends
-/// is no argument without averaging; the door would join its bands all the same.
-fn predict(mut args: PredictArgs, above: bool, dst: &mut [u16]) {
-    if !args.average {
-        args.refs[1] = FrameReference::default();
-    }
+/// As in block prediction: above the depth the definition answers, not the Rust.
+fn predict(args: &PredictArgs, above: bool, dst: &mut [u16]) {
     if above {
-        plain::predict_inter(&args, dst);
+        plain::predict_inter(args, dst);
     } else {
-        door::predict_inter(&args, dst);
+        door::predict_inter(args, dst);
     }
 }
 
@@ -629,8 +625,8 @@ mod tests {
                 }
                 let before: Vec<u16> = (0..q.dst).map(before).collect();
                 let mut both = [before.clone(), before];
-                predict(args.clone(), false, &mut both[0]);
-                predict(args, true, &mut both[1]);
+                predict(&args, false, &mut both[0]);
+                predict(&args, true, &mut both[1]);
                 assert_eq!(both[0], both[1], "{q:?}");
                 compared += 1;
             }
