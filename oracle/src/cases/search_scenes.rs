@@ -111,11 +111,9 @@ fn length_edges() -> Vec<Edge<Query>> {
 fn block_vector_edges() -> Vec<Edge<Query>> {
     let mut edges = Vec::new();
     for i in 0..8 {
-        for (number, value) in values_within(9, -32767, 32767) {
-            edges.push(edge(number, move |q: &mut Query| {
-                q.args.block_vectors[i / 2][i % 2] = value;
-            }));
-        }
+        edges.extend(component_edges(move |q: &mut Query, n| {
+            q.args.block_vectors[i / 2][i % 2] = n;
+        }));
     }
     // Which of the first three are equal, by the bits of `same`.
     for block in 0..4 {
