@@ -78,6 +78,7 @@ pub fn component_edges<A: 'static>(set: impl Fn(&mut A, i32) + Copy + 'static) -
     each(values_within(9, -32767, 32767), set)
 }
 
+/// Values of mi_size.
 pub const BLOCK_SIZES: [(u32, u8); 4] = [(0, 0), (0, 12), (1, 13), (1, 255)];
 
 /// Edges of the block size and of the grid, for any call that is given a grid. The base stands
