@@ -285,8 +285,8 @@ fn wrong_side(n: usize) -> bool {
     !(1..=64).contains(&n)
 }
 
-/// "Chroma of blocks below 8x8: .. halved height pairs sub-block b with b+2 (b = 2 or 3: refusal 1);
-/// halved width pairs b with b+1 (b = 3: refusal 1 ..); both halved takes all four."
+/// "Chroma of blocks below 8x8: .. halved height pairs sub-block b with b+2 (b = 2 or 3: refusal
+/// 1); halved width pairs b with b+1 (b = 3: refusal 1 ..); both halved takes all four."
 fn no_partner(plane: usize, mi_size: u8, block: usize, sub_x: bool, sub_y: bool) -> bool {
     if plane == 0 || mi_size >= BLOCK_8X8 {
         return false;

@@ -1,6 +1,6 @@
 //! The arguments and the answers of every bought call, in document 01's terms: plain numbers, lent
-//! tables, flat planes. `door` answers them with the Rust, `table` reads document 01's refusals over
-//! them, `cases` makes them up and writes them down.
+//! tables, flat planes. `door` answers them with the Rust, `table` reads document 01's refusals
+//! over them, `cases` makes them up and writes them down.
 
 /// Row before column, in eighths of a luma sample or, once clamped, sixteenths of a plane sample.
 pub type Vector = [i32; 2];

@@ -21,6 +21,12 @@ fn inside(phase_x: i32, phase_y: i32) -> Scaled {
     }
 }
 
+/// A step that sends the Rust the way of scaled references.
+const SCALED: Scaled = Scaled {
+    step_x: 32,
+    ..UNSCALED
+};
+
 fn ramp_block(at: Scaled, w: usize, h: usize) -> BlockArgs {
     block(reference(ramp(), at), 0, w, h)
 }
@@ -32,15 +38,7 @@ fn fast(a: &BlockArgs) -> Vec<u16> {
 /// Refusal 4, filter above 3: the table of taps ends, even where no tap is needed.
 #[test]
 fn filter_4() {
-    for at in [
-        inside(0, 0),
-        inside(8, 8),
-        Scaled {
-            step_x: 32,
-            ..UNSCALED
-        },
-        UNSCALED,
-    ] {
+    for at in [inside(0, 0), inside(8, 8), SCALED, UNSCALED] {
         let a = BlockArgs {
             filter: 4,
             ..ramp_block(at, 1, 1)
@@ -49,31 +47,27 @@ fn filter_4() {
     }
 }
 
-/// Refusal 4, depth 9: the Rust clips to 511. Here 600 and 600 average to 511 instead of 600.
-#[test]
-fn depth_9() {
+/// The sample halfway between 600 and 600.
+fn between_600s(depth: u32) -> Vec<u16> {
     let at = Scaled {
         start_x: 8,
         ..UNSCALED
     };
-    let mut a = block(reference(plane(2, 1, &[600, 600]), at), 3, 1, 1);
-    a.depth = 9;
-    assert_eq!(fast(&a), [511]);
+    let a = block(reference(plane(2, 1, &[600, 600]), at), 3, 1, 1);
+    fast(&BlockArgs { depth, ..a })
+}
+
+/// Refusal 4, depth 9: the Rust clips to 511. Here 600 and 600 average to 511 instead of 600.
+#[test]
+fn depth_9() {
+    assert_eq!(between_600s(9), [511]);
 }
 
 /// Refusal 4, depth 32: the shift wraps to none and everything filtered is clipped to 0; with depth
 /// 31 nothing is clipped but below 0; depth 0 is depth 32.
 #[test]
 fn depth_32() {
-    let at = Scaled {
-        start_x: 8,
-        ..UNSCALED
-    };
-    let with = |depth: u32| {
-        let a = block(reference(plane(2, 1, &[600, 600]), at), 3, 1, 1);
-        fast(&BlockArgs { depth, ..a })
-    };
-    assert_eq!([with(32), with(31), with(0)], [[0], [600], [0]]);
+    assert_eq!([32, 31, 0].map(between_600s), [[0], [600], [0]]);
 }
 
 /// Refusal 1, w 0: the Rust writes nothing where it takes one pass, and panics where it takes two
@@ -85,13 +79,7 @@ fn width_0() {
         door::block_inter_predict(&ramp_block(at, 0, 1), &mut out);
         assert_eq!(out, [MARK; 4]);
     }
-    for at in [
-        inside(8, 8),
-        Scaled {
-            step_x: 32,
-            ..UNSCALED
-        },
-    ] {
+    for at in [inside(8, 8), SCALED] {
         assert_panics("chunk size must be non-zero", || {
             fast(&ramp_block(at, 0, 1))
         });
@@ -101,14 +89,7 @@ fn width_0() {
 /// Refusal 1, h 0: the Rust writes nothing.
 #[test]
 fn height_0() {
-    for at in [
-        inside(0, 0),
-        inside(8, 8),
-        Scaled {
-            step_x: 32,
-            ..UNSCALED
-        },
-    ] {
+    for at in [inside(0, 0), inside(8, 8), SCALED] {
         let mut out = [MARK; 4];
         door::block_inter_predict(&ramp_block(at, 1, 0), &mut out);
         assert_eq!(out, [MARK; 4]);
@@ -173,14 +154,10 @@ fn plane_of_size_0() {
         };
         fast(&block(reference(bands, at), 0, 1, 1))
     };
-    let scaled = Scaled {
-        step_x: 32,
-        ..UNSCALED
-    };
     assert_panics("min > max. min = 0, max = -1", || sized(0, 16, UNSCALED));
     assert_panics("min > max. min = 0, max = -1", || sized(16, 0, UNSCALED));
-    assert_panics("index out of bounds", || sized(0, 16, scaled));
-    assert_panics("out of range", || sized(16, 0, scaled));
+    assert_panics("index out of bounds", || sized(0, 16, SCALED));
+    assert_panics("out of range", || sized(16, 0, SCALED));
 }
 
 /// Refusal 7, a band one short: the Rust misses the sample only where it reads it.
@@ -271,6 +248,12 @@ fn predict(a: &PredictArgs) -> Vec<u16> {
     dst
 }
 
+fn predict_with(change: impl Fn(&mut PredictArgs)) -> Vec<u16> {
+    let mut a = prediction();
+    change(&mut a);
+    predict(&a)
+}
+
 fn untouched(dst: &[u16]) -> bool {
     dst.iter().all(|&s| s == MARK)
 }
@@ -288,126 +271,58 @@ fn predict_plainly() {
 /// Accepted by both: a block wholly beyond the destination writes nothing.
 #[test]
 fn predict_beyond_the_destination() {
-    assert!(untouched(&predict(&PredictArgs {
-        x: 16,
-        ..prediction()
-    })));
-    assert!(untouched(&predict(&PredictArgs {
-        y: 16,
-        ..prediction()
-    })));
+    assert!(untouched(&predict_with(|a| a.x = 16)));
+    assert!(untouched(&predict_with(|a| a.y = 16)));
 }
 
 /// Refusal 1: block size, sub-block, partner, plane, w and h, as the calls below it have them.
 #[test]
 fn predict_block_refusals() {
-    let a = prediction();
-    let size_13 = PredictArgs {
-        grid: grid(0, 0, 2, 2, 13),
-        ..a.clone()
+    assert_panics(&beyond(13, 13), || predict_with(|a| a.grid.mi_size = 13));
+    assert_panics(&beyond(4, 4), || predict_with(|a| a.block = 4));
+    let without_partner = |a: &mut PredictArgs| {
+        (a.plane, a.block, a.sub_x, a.grid.mi_size) = (1, 2, false, 0);
     };
-    assert_panics(&beyond(13, 13), || predict(&size_13));
-    assert_panics(&beyond(4, 4), || {
-        predict(&PredictArgs {
-            block: 4,
-            ..a.clone()
-        })
-    });
-    let partner = PredictArgs {
-        plane: 1,
-        block: 2,
-        sub_x: false,
-        grid: grid(0, 0, 2, 2, 0),
-        ..a.clone()
-    };
-    assert_panics(&beyond(4, 4), || predict(&partner));
-    assert_eq!(
-        predict(&PredictArgs {
-            plane: 3,
-            ..a.clone()
-        })[0],
-        0
-    );
-    assert!(untouched(&predict(&PredictArgs { w: 0, ..a.clone() })));
+    assert_panics(&beyond(4, 4), || predict_with(without_partner));
+    assert_eq!(predict_with(|a| a.plane = 3)[0], 0);
+    assert!(untouched(&predict_with(|a| a.w = 0)));
     // A block too large for the driver's room, once it is cut off or the second list's.
-    assert_eq!(
-        predict(&PredictArgs {
-            w: 65,
-            h: 63,
-            ..a.clone()
-        })[255],
-        255
-    );
+    assert_eq!(predict_with(|a| (a.w, a.h) = (65, 63))[255], 255);
     assert_panics("out of range for slice", || {
-        predict(&PredictArgs {
-            w: 65,
-            h: 64,
-            ..a.clone()
-        })
+        predict_with(|a| (a.w, a.h) = (65, 64))
     });
 }
 
 /// Refusal 2: the Rust clamps by whatever grid it is given; 0 cells are none.
 #[test]
 fn predict_grid_refusals() {
-    let a = PredictArgs {
-        grid: grid(9, 9, 0, 0, 3),
-        ..prediction()
-    };
     // The vector (0, 0) is clamped to 69 samples up and left, and below to 60 down and right.
-    assert_eq!(predict(&a)[0], 0);
-    let b = PredictArgs {
-        grid: grid(-9, -9, 2, 2, 3),
-        ..prediction()
-    };
-    assert_eq!(predict(&b)[0], 255);
+    assert_eq!(predict_with(|a| a.grid = grid(9, 9, 0, 0, 3))[0], 0);
+    assert_eq!(predict_with(|a| a.grid = grid(-9, -9, 2, 2, 3))[0], 255);
 }
 
 /// Refusal 4, filter and depth.
 #[test]
 fn predict_filter_refusals() {
-    assert_panics(&beyond(4, 4), || {
-        predict(&PredictArgs {
-            filter: 4,
-            ..prediction()
-        })
-    });
-    assert_eq!(
-        predict(&PredictArgs {
-            depth: 32,
-            ..prediction()
-        })[7],
-        7
-    );
+    assert_panics(&beyond(4, 4), || predict_with(|a| a.filter = 4));
+    assert_eq!(predict_with(|a| a.depth = 32)[7], 7);
 }
 
 /// Refusal 5: a reference that is not allowed is predicted from, a frame of no width divides by 0.
 #[test]
 fn predict_size_refusals() {
-    let smaller = PredictArgs {
-        frame_width: 7,
-        frame_height: 7,
-        ..prediction()
-    };
-    assert_eq!(predict(&smaller)[..4], [0, 2, 5, 7]);
-    let none = PredictArgs {
-        frame_width: 0,
-        ..prediction()
-    };
-    assert_panics("attempt to divide by zero", || predict(&none));
+    let smaller = predict_with(|a| (a.frame_width, a.frame_height) = (7, 7));
+    assert_eq!(smaller[..4], [0, 2, 5, 7]);
+    assert_panics("attempt to divide by zero", || {
+        predict_with(|a| a.frame_width = 0)
+    });
 }
 
 /// Refusal 6: the Rust predicts from the left of the frame and writes nothing.
 #[test]
 fn predict_position_refusals() {
-    assert!(untouched(&predict(&PredictArgs {
-        x: -1,
-        ..prediction()
-    })));
-    assert!(untouched(&predict(&PredictArgs {
-        y: 65_536,
-        ..prediction()
-    })));
+    assert!(untouched(&predict_with(|a| a.x = -1)));
+    assert!(untouched(&predict_with(|a| a.y = 65_536)));
 }
 
 /// Refusal 7, the reference one short. The destination can't be short in the Rust: its plane owns
@@ -439,4 +354,14 @@ fn predict_list_1_unused() {
     assert_eq!(predict(&a)[7], 7);
     a.average = true;
     assert_panics(&beyond(0, -1), || predict(&a));
+}
+
+/// Nor are its bands joined: so many rows as these could not be.
+#[test]
+fn predict_list_1_not_joined() {
+    let mut a = prediction();
+    (a.refs[1].bands.stride, a.refs[1].bands.upper_rows) = (1, usize::MAX);
+    assert_eq!(predict(&a)[7], 7);
+    a.average = true;
+    assert_panics("capacity overflow", || predict(&a));
 }

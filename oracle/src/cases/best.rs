@@ -12,13 +12,7 @@ impl Fixed for BestArgs {
 
     fn base() -> Self {
         BestArgs {
-            grid: Grid {
-                mi_row: 3,
-                mi_col: 2,
-                mi_rows: 8,
-                mi_cols: 8,
-                mi_size: 3,
-            },
+            grid: BASE_GRID,
             tile: Tile { start: 0, end: 8 },
             pair: [[3, -3], [-5, 64]],
             high_precision: false,
@@ -28,23 +22,16 @@ impl Fixed for BestArgs {
     fn edges() -> Vec<Edge<Self>> {
         let mut edges = grid_edges(|a: &mut BestArgs| &mut a.grid);
         edges.extend(tile_edges(|a: &mut BestArgs| (&mut a.grid, &mut a.tile)));
-        for (at, count) in large_positions() {
+        for grid in large_grids() {
             edges.push(edge(0, move |a: &mut BestArgs| {
-                (a.grid.mi_row, a.grid.mi_rows) = (at, count);
-                (a.grid.mi_col, a.grid.mi_cols) = (count - 1 - at, count);
-                a.tile = Tile {
-                    start: 0,
-                    end: count,
-                };
+                (a.grid, a.tile.end) = (grid, grid.mi_cols);
                 a.pair = [[32767, -32767], [-32767, 32767]];
             }));
         }
         for i in 0..4 {
-            for (number, value) in values_within(9, -32767, 32767) {
-                edges.push(edge(number, move |a: &mut BestArgs| {
-                    a.pair[i / 2][i % 2] = value
-                }));
-            }
+            edges.extend(component_edges(move |a: &mut BestArgs, n| {
+                a.pair[i / 2][i % 2] = n;
+            }));
         }
         edges.extend(precision_edges());
         edges.extend(held_edges());
@@ -112,10 +99,7 @@ fn vector(rng: &mut Rng, a: &BestArgs) -> Vector {
     let limit = if rng.once_in(25) { 32769 } else { 32767 };
     let mut one = |i| match rng.below(4) {
         0 => rng.pick(&[-65, -64, -63, 63, 64, 65]),
-        1 if a.grid.mi_size <= 12 => {
-            let (low, high) = sides(a, i);
-            (rng.pick(&[low, high]) + rng.within(-2, 2)).clamp(-32767, 32767)
-        }
+        1 if a.grid.mi_size <= 12 => near_side(rng, sides(a, i)),
         _ => component(rng, limit),
     };
     [one(0), one(1)]
@@ -124,12 +108,7 @@ fn vector(rng: &mut Rng, a: &BestArgs) -> Vector {
 /// Document 01: "low = -64 x mi_row - border; high = 64 x (mi_rows - height - mi_row) + border".
 /// Only aims the cases; no answer rests on it.
 fn sides(a: &BestArgs, i: usize) -> (i32, i32) {
-    let g = &a.grid;
-    let size = usize::from(g.mi_size);
-    let (at, count, span) = [
-        (g.mi_row, g.mi_rows, HIGH[size]),
-        (g.mi_col, g.mi_cols, WIDE[size]),
-    ][i];
+    let (at, count, span) = rows_and_columns(&a.grid)[i];
     (-64 * at - 1248, 64 * (count - span - at) + 1248)
 }
 

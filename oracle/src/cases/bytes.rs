@@ -60,9 +60,9 @@ impl Writer {
         self.0.resize(self.0.len() + n, 0);
     }
 
-    /// Zeros up to the next multiple of eight.
-    pub fn align(&mut self) {
-        self.0.resize(self.0.len().next_multiple_of(8), 0);
+    /// Zeros up to the next multiple of `to`.
+    pub fn align(&mut self, to: usize) {
+        self.0.resize(self.0.len().next_multiple_of(to), 0);
     }
 }
 
@@ -160,8 +160,8 @@ impl<'a> Reader<'a> {
         })
     }
 
-    pub fn align(&mut self) -> Read<()> {
-        let aligned = self.at.next_multiple_of(8);
+    pub fn align(&mut self, to: usize) -> Read<()> {
+        let aligned = self.at.next_multiple_of(to);
         self.take(aligned - self.at).map(|_| ())
     }
 }

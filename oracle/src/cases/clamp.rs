@@ -12,13 +12,7 @@ impl Fixed for ClampArgs {
 
     fn base() -> Self {
         ClampArgs {
-            grid: Grid {
-                mi_row: 3,
-                mi_col: 2,
-                mi_rows: 8,
-                mi_cols: 8,
-                mi_size: 3,
-            },
+            grid: BASE_GRID,
             vector: [5, -7],
             ..ClampArgs::default()
         }
@@ -27,20 +21,14 @@ impl Fixed for ClampArgs {
     fn edges() -> Vec<Edge<Self>> {
         let mut edges = grid_edges(|a: &mut ClampArgs| &mut a.grid);
         edges.extend(column_edges(|a: &mut ClampArgs| &mut a.grid));
-        for (at, count) in large_positions() {
+        for grid in large_grids() {
             edges.push(edge(0, move |a: &mut ClampArgs| {
-                (a.grid.mi_row, a.grid.mi_rows) = (at, count);
-                (a.grid.mi_col, a.grid.mi_cols) = (count - 1 - at, count);
-                a.vector = [32767, -32767];
+                (a.grid, a.vector) = (grid, [32767, -32767]);
             }));
         }
-        for (number, plane) in sizes_to(1, 2) {
-            edges.push(edge(number, move |a: &mut ClampArgs| a.plane = plane));
-        }
+        edges.extend(each(sizes_to(1, 2), |a: &mut ClampArgs, n| a.plane = n));
         for i in 0..2 {
-            for (number, value) in values_within(9, -32767, 32767) {
-                edges.push(edge(number, move |a: &mut ClampArgs| a.vector[i] = value));
-            }
+            edges.extend(component_edges(move |a: &mut ClampArgs, n| a.vector[i] = n));
         }
         edges.extend(held_edges());
         edges
@@ -112,26 +100,19 @@ fn position(rng: &mut Rng) -> (i32, i32) {
     (rng.within(0, count - 1), count)
 }
 
-/// A component at, or within two of, a side of what the clamp lets through, or any other.
+/// A component near a side of what the clamp lets through, or any other.
 fn near(rng: &mut Rng, a: &ClampArgs, i: usize) -> i32 {
     if a.grid.mi_size > 12 || rng.once_in(3) {
         let limit = if rng.once_in(12) { 32769 } else { 32767 };
         return component(rng, limit);
     }
-    let (low, high) = sides(a, i);
-    let side = if rng.coin() { low } else { high };
-    (side + rng.within(-2, 2)).clamp(-32767, 32767)
+    near_side(rng, sides(a, i))
 }
 
 /// The least and the largest component, in eighths, that the clamp passes on: the edges of the
 /// standard's section 8.5.2.2 turned back into eighths. Only aims the cases; no answer rests on it.
 fn sides(a: &ClampArgs, i: usize) -> (i32, i32) {
-    let g = &a.grid;
-    let size = usize::from(g.mi_size);
-    let (at, count, span) = [
-        (g.mi_row, g.mi_rows, HIGH[size]),
-        (g.mi_col, g.mi_cols, WIDE[size]),
-    ][i];
+    let (at, count, span) = rows_and_columns(&a.grid)[i];
     let halved = a.plane > 0 && [a.sub_y, a.sub_x][i];
     let (reach, one) = if halved {
         (16 * (4 + 4 * span), 16)

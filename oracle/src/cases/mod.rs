@@ -8,6 +8,7 @@ mod edges;
 mod fixed;
 mod planes;
 mod predict;
+mod prediction;
 mod rng;
 mod row;
 mod scale;
@@ -21,11 +22,9 @@ mod slips;
 #[cfg(test)]
 mod tests;
 
-use crate::terms::{BestArgs, ClampArgs, ScaleArgs, SelectArgs};
-use block::Block;
+use crate::terms::{BestArgs, BlockArgs, ClampArgs, PredictArgs, ScaleArgs, SelectArgs};
 use bytes::{Read, Reader, Writer};
 use fixed::Fixed;
-use predict::Predict;
 use rng::Rng;
 use row::RowRead;
 use search::{Append, Find};
@@ -87,8 +86,8 @@ impl Call {
             Call::FindMvRefs => Find::LENGTH,
             Call::AppendSub8x8Mvs => Append::LENGTH,
             Call::RowRead => RowRead::LENGTH,
-            Call::BlockInterPredict => Block::LENGTH,
-            Call::PredictInter => Predict::LENGTH,
+            Call::BlockInterPredict => BlockArgs::LENGTH,
+            Call::PredictInter => PredictArgs::LENGTH,
         }
     }
 }
@@ -110,8 +109,8 @@ pub fn make(call: Call, seed: u64, count: u32) -> Vec<u8> {
         Call::FindMvRefs => staged::make::<Find>(rng, n, &mut w),
         Call::AppendSub8x8Mvs => staged::make::<Append>(rng, n, &mut w),
         Call::RowRead => staged::make::<RowRead>(rng, n, &mut w),
-        Call::BlockInterPredict => staged::make::<Block>(rng, n, &mut w),
-        Call::PredictInter => staged::make::<Predict>(rng, n, &mut w),
+        Call::BlockInterPredict => staged::make::<BlockArgs>(rng, n, &mut w),
+        Call::PredictInter => staged::make::<PredictArgs>(rng, n, &mut w),
     }
     w.0
 }
@@ -143,8 +142,8 @@ pub fn ask(call: Call, bytes: &[u8]) -> Read<Asked> {
         Call::FindMvRefs => staged::ask::<Find>(r, cases),
         Call::AppendSub8x8Mvs => staged::ask::<Append>(r, cases),
         Call::RowRead => staged::ask::<RowRead>(r, cases),
-        Call::BlockInterPredict => staged::ask::<Block>(r, cases),
-        Call::PredictInter => staged::ask::<Predict>(r, cases),
+        Call::BlockInterPredict => staged::ask::<BlockArgs>(r, cases),
+        Call::PredictInter => staged::ask::<PredictArgs>(r, cases),
     }?;
     if !r.at_end() {
         return Err(format!("the file goes on after byte {}", r.at()));

@@ -1,8 +1,8 @@
-//! Scenes of the calls that read samples: the contents of two references' bands. A query lends them,
-//! or less of them, as planes of its own size, stride and parting.
+//! Scenes of the calls that read samples: the contents of two references' bands. A query lends
+//! them, or less of them, as planes of its own size, stride and parting.
 
 use super::bytes::{Read, Reader, Writer};
-use super::edges::{Edge, edge};
+use super::edges::{Edge, each, edge};
 use super::rng::Rng;
 use crate::table::band_need;
 use crate::terms::Bands;
@@ -12,9 +12,6 @@ const HELD: usize = 1024;
 
 /// The longest band that any query lends.
 pub const LONGEST: usize = 65_536;
-
-/// The longest output or destination; one more than a plane can be wide.
-const LONGEST_OUTPUT: usize = 65_537;
 
 // Document 01's numbers once more, so that the table is not held against itself.
 pub const ROOM: usize = 8_576;
@@ -134,12 +131,13 @@ pub trait Lends {
     fn size(&self, list: usize) -> (i32, i32);
 }
 
-fn refit<A: Lends>(a: &mut A, list: usize, stride: usize, upper_rows: usize) {
+/// Lends the plane of that list anew, as long as its size asks for.
+pub fn refit<A: Lends>(a: &mut A, list: usize, stride: usize, upper_rows: usize) {
     let (width, height) = a.size(list);
     *a.lent(list) = Lent::fit(stride, upper_rows, width, height);
 }
 
-/// Row 7 of the table for one plane, whose height in the base is `height`: stride, parting, lengths.
+/// Row 7 of the table for one plane, which has this height in the base: stride, parting, lengths.
 pub fn lent_edges<A: Lends + 'static>(list: usize, height: usize) -> Vec<Edge<A>> {
     let mut edges = Vec::new();
     for k in 0..=height {
@@ -177,14 +175,11 @@ fn far_stride_edges<A: Lends + 'static>(list: usize) -> Vec<Edge<A>> {
         (7, (1 << 32) + 16),
         (7, usize::MAX),
     ];
-    let set = |(number, stride)| {
-        edge(number, move |a: &mut A| {
-            a.resize(list, 9, 2);
-            refit(a, list, 9, 1);
-            a.lent(list).stride = stride;
-        })
-    };
-    strides.into_iter().map(set).collect()
+    each(strides, move |a: &mut A, stride| {
+        a.resize(list, 9, 2);
+        refit(a, list, 9, 1);
+        a.lent(list).stride = stride;
+    })
 }
 
 /// Each band one sample short, empty, or longer than needed.
@@ -207,8 +202,8 @@ pub fn extent_edges<A: 'static>(
     extent: fn(&mut A, usize) -> &mut i32,
     list: usize,
 ) -> Vec<Edge<A>> {
-    let set = |n| edge(5, move |a: &mut A| *extent(a, list) = n);
-    WRONG_EXTENTS.into_iter().map(set).collect()
+    let wrong = WRONG_EXTENTS.map(|n| (5, n));
+    each(wrong, move |a, n| *extent(a, list) = n)
 }
 
 /// Planes of the largest extents: width, height, stride and upper rows.
@@ -221,42 +216,3 @@ pub const LARGEST_PLANES: [(i32, i32, usize, usize); 7] = [
     (1, 65_536, 1, 40_000),
     (1, 65_536, 1, 65_536),
 ];
-
-/// Sample i of an output or a destination before the call.
-pub fn before(i: usize) -> u16 {
-    ((i * 37 + 11) % 1021) as u16
-}
-
-/// The shortest run that holds every sample that the call changed: its first index and its samples.
-pub fn changed(out: &[u16]) -> (usize, &[u16]) {
-    let differs = |&i: &usize| out[i] != before(i);
-    match (0..out.len()).find(differs) {
-        None => (0, &[]),
-        Some(first) => {
-            let last = (first..out.len()).rfind(differs).expect("first differs");
-            (first, &out[first..=last])
-        }
-    }
-}
-
-/// Writes the answer, where what changed begins, and how much that is; gives what is to follow.
-pub fn write_output(number: u32, out: &[u16], w: &mut Writer) -> Vec<u16> {
-    let (first, run) = changed(out);
-    w.u32(number);
-    w.len(first);
-    w.len(run.len());
-    run.to_vec()
-}
-
-pub fn read_output_length(r: &mut Reader) -> Read<usize> {
-    let n = r.len()?;
-    if n > LONGEST_OUTPUT {
-        return Err(format!("an output of {n} samples"));
-    }
-    Ok(n)
-}
-
-/// Bytes of a run of `samples`, padded.
-pub fn run_bytes(samples: usize) -> usize {
-    (2 * samples).next_multiple_of(8)
-}

@@ -1,92 +1,54 @@
 //! `predict_inter`.
 
-use super::block::{any_above, chance_depth, chance_side};
 use super::bytes::{Read, Reader, Writer};
 use super::edges::*;
 use super::planes::*;
+use super::prediction::{self, *};
 use super::rng::Rng;
 use super::scale::ratios;
-use super::staged::{Numbered, Staged};
+use super::staged::Numbered;
 use crate::table::plane_extent;
-use crate::terms::{BlockVectors, FrameReference, Grid, PredictArgs};
+use crate::terms::{Bands, BlockVectors, FrameReference, Grid, PredictArgs};
 use crate::{door, plain, table};
 
-/// The arguments without the planes' samples, and how these are lent.
-#[derive(Clone, Debug)]
-pub struct Query {
-    args: PredictArgs,
-    lent: [Lent; 2],
-    dst: usize,
-    room: usize,
-}
+type Query = prediction::Query<PredictArgs>;
 
-impl Query {
-    fn args(&self, scene: &Scene) -> PredictArgs {
-        let mut args = self.args.clone();
-        for list in 0..2 {
-            let (width, height) = self.size(list);
-            args.refs[list].bands = scene.bands(list, width, height, &self.lent[list]);
-        }
-        args
-    }
+impl Prediction for PredictArgs {
+    const ANSWER_AT: usize = 236;
+    const STREAM: u64 = 400;
+    const NUMBER: fn(&Self, usize, usize) -> u32 = table::predict_inter;
+    const BY_RUST: fn(&Self, &mut [u16]) = door::predict_inter;
+    const BY_DEFINITION: fn(&Self, &mut [u16]) = plain::predict_inter;
 
-    /// Both references lent in one way that suits their sizes.
-    fn refit(&mut self, upper_rows: usize) {
-        for list in 0..2 {
-            let (width, height) = self.size(list);
-            let k = upper_rows.min(height as usize);
-            self.lent[list] = Lent::fit(width as usize, k, width, height);
-        }
-    }
-}
-
-impl Lends for Query {
-    fn lent(&mut self, list: usize) -> &mut Lent {
-        &mut self.lent[list]
-    }
-
-    fn resize(&mut self, list: usize, width: i32, height: i32) {
-        let r = &mut self.args.refs[list];
-        (r.frame_width, r.frame_height) = (width, height);
+    fn bands(&mut self, list: usize) -> &mut Bands {
+        &mut self.refs[list].bands
     }
 
     /// Of the plane that the frame's size gives.
     fn size(&self, list: usize) -> (i32, i32) {
-        let (a, r) = (&self.args, &self.args.refs[list]);
+        let r = &self.refs[list];
         (
-            plane_extent(r.frame_width, a.plane, a.sub_x),
-            plane_extent(r.frame_height, a.plane, a.sub_y),
+            plane_extent(r.frame_width, self.plane, self.sub_x),
+            plane_extent(r.frame_height, self.plane, self.sub_y),
         )
     }
-}
 
-pub struct Predict;
-
-impl Staged for Predict {
-    type Scene = Scene;
-    type Query = Query;
-    const LENGTH: usize = 248;
-
-    fn boundaries() -> Vec<(Scene, Numbered<Query>)> {
-        vec![small_stage(), large_stage(), deep_stage()]
+    /// Gives the frame this size.
+    fn resize(&mut self, list: usize, width: i32, height: i32) {
+        let r = &mut self.refs[list];
+        (r.frame_width, r.frame_height) = (width, height);
     }
 
-    fn random(rng: &mut Rng) -> (Scene, Vec<Query>) {
-        let bits = rng.pick(&[8, 8, 8, 10, 10, 12, 12, 16]);
-        let scene = Scene::chance(rng, bits, 1024);
-        (scene, (0..48).map(|_| chance_query(rng, bits)).collect())
+    fn depth_and_average(&mut self) -> (&mut u32, &mut bool) {
+        (&mut self.depth, &mut self.average)
     }
 
-    fn read_scene(r: &mut Reader) -> Read<Scene> {
-        Scene::read(r)
+    fn above_depth(&self) -> bool {
+        let used = &self.refs[..table::lists(self.average)];
+        used.iter().any(|r| any_above(&r.bands, self.depth))
     }
 
-    fn write_scene(scene: &Scene, w: &mut Writer) {
-        scene.write(w);
-    }
-
-    fn read(r: &mut Reader) -> Read<Query> {
-        let mut q = base();
+    fn read_args(q: &mut Query, r: &mut Reader) -> Read<()> {
         let a = &mut q.args;
         for c in a.vectors.iter_mut().flatten().flatten() {
             *c = r.i32()?;
@@ -117,177 +79,180 @@ impl Staged for Predict {
         a.sub_x = r.bool()?;
         a.sub_y = r.bool()?;
         a.average = r.bool()?;
-        r.take(4)?;
-        q.dst = read_output_length(r)?;
-        q.room = r.len()?;
-        Ok(q)
+        Ok(())
     }
 
-    fn write(scene: &Scene, q: &Query, w: &mut Writer) {
-        let args = q.args(scene);
-        let number = table::predict_inter(&args, q.dst, q.room);
-        let above = number == 0 && above_depth(q, &args);
-        write_args(q, w);
-        w.bool(above);
-        w.zeros(3);
-        w.len(q.dst);
-        w.len(q.room);
-        let mut dst: Vec<u16> = (0..q.dst).map(before).collect();
-        if number == 0 {
-            predict(args, above, &mut dst);
+    fn write_args(q: &Query, w: &mut Writer) {
+        let a = &q.args;
+        a.vectors.iter().flatten().for_each(|v| w.vector(v));
+        for list in 0..2 {
+            w.i32(a.refs[list].frame_width);
+            w.i32(a.refs[list].frame_height);
+            q.lent[list].write(w);
         }
-        let run = write_output(number, &dst, w);
-        run.iter().for_each(|&s| w.u16(s));
-        w.align();
+        for n in [
+            a.plane,
+            a.w,
+            a.h,
+            a.block,
+            a.filter,
+            a.dst_width,
+            a.dst_height,
+        ] {
+            w.size(n);
+        }
+        w.i32(a.x);
+        w.i32(a.y);
+        w.position(&a.grid);
+        w.i32(a.frame_width);
+        w.i32(a.frame_height);
+        w.u32(a.depth);
+        w.u8(a.grid.mi_size);
+        w.bool(a.sub_x);
+        w.bool(a.sub_y);
+        w.bool(a.average);
     }
 
-    fn tail(query: &[u8]) -> usize {
-        run_bytes(u32::from_le_bytes(query[244..248].try_into().expect("four bytes")) as usize)
-    }
-
-    fn number(scene: &Scene, q: &Query) -> u32 {
-        table::predict_inter(&q.args(scene), q.dst, q.room)
-    }
-}
-
-fn write_args(q: &Query, w: &mut Writer) {
-    let a = &q.args;
-    a.vectors.iter().flatten().for_each(|v| w.vector(v));
-    for list in 0..2 {
-        w.i32(a.refs[list].frame_width);
-        w.i32(a.refs[list].frame_height);
-        q.lent[list].write(w);
-    }
-    for n in [
-        a.plane,
-        a.w,
-        a.h,
-        a.block,
-        a.filter,
-        a.dst_width,
-        a.dst_height,
-    ] {
-        w.size(n);
-    }
-    w.i32(a.x);
-    w.i32(a.y);
-    w.position(&a.grid);
-    w.i32(a.frame_width);
-    w.i32(a.frame_height);
-    w.u32(a.depth);
-    w.u8(a.grid.mi_size);
-    w.bool(a.sub_x);
-    w.bool(a.sub_y);
-    w.bool(a.average);
-}
-
-/// As in block prediction: above the depth the definition answers, not the Rust. What list 1 lends
-/// is no argument without averaging; the door would join its bands all the same.
-fn predict(mut args: PredictArgs, above: bool, dst: &mut [u16]) {
-    if !args.average {
-        args.refs[1] = FrameReference::default();
-    }
-    if above {
-        plain::predict_inter(&args, dst);
-    } else {
-        door::predict_inter(&args, dst);
-    }
-}
-
-fn above_depth(q: &Query, args: &PredictArgs) -> bool {
-    (0..table::lists(args.average)).any(|list| {
-        let (width, height) = q.size(list);
-        any_above(&args.refs[list].bands, width, height, args.depth)
-    })
-}
-
-// Scenes for boundaries.
-
-fn base() -> Query {
-    let reference = |frame_width, frame_height| FrameReference {
-        frame_width,
-        frame_height,
-        ..FrameReference::default()
-    };
-    Query {
-        args: PredictArgs {
-            x: 3,
-            y: 2,
-            w: 5,
-            h: 4,
-            depth: 8,
-            average: true,
-            grid: Grid {
-                mi_row: 0,
-                mi_col: 1,
-                mi_rows: 8,
-                mi_cols: 8,
-                mi_size: 0,
+    fn base() -> Query {
+        let reference = |frame_width, frame_height| FrameReference {
+            frame_width,
+            frame_height,
+            ..FrameReference::default()
+        };
+        Query {
+            args: PredictArgs {
+                x: 3,
+                y: 2,
+                w: 5,
+                h: 4,
+                depth: 8,
+                average: true,
+                grid: Grid {
+                    mi_row: 0,
+                    mi_col: 1,
+                    mi_rows: 8,
+                    mi_cols: 8,
+                    mi_size: 0,
+                },
+                frame_width: 24,
+                frame_height: 20,
+                vectors: [
+                    [[10, -20], [31, 40], [-52, 60], [73, -80]],
+                    [[-11, 21], [-32, 41], [53, -61], [-74, -81]],
+                ],
+                refs: [reference(24, 20), reference(12, 10)],
+                dst_width: 12,
+                dst_height: 7,
+                ..PredictArgs::default()
             },
-            frame_width: 24,
-            frame_height: 20,
-            vectors: [
-                [[10, -20], [31, 40], [-52, 60], [73, -80]],
-                [[-11, 21], [-32, 41], [53, -61], [-74, -81]],
-            ],
-            refs: [reference(24, 20), reference(12, 10)],
-            dst_width: 12,
-            dst_height: 7,
-            ..PredictArgs::default()
-        },
-        lent: [Lent::fit(26, 7, 24, 20), Lent::fit(12, 4, 12, 10)],
-        dst: 84,
-        room: ROOM,
+            lent: [Lent::fit(26, 7, 24, 20), Lent::fit(12, 4, 12, 10)],
+            out: 84,
+            room: ROOM,
+        }
     }
-}
 
-fn small_stage() -> (Scene, Numbered<Query>) {
-    let mut edges = block_edges();
-    edges.extend(grid_edges(|q: &mut Query| &mut q.args.grid));
-    edges.extend(column_edges(|q: &mut Query| &mut q.args.grid));
-    edges.extend(place_edges());
-    for list in 0..2 {
-        edges.extend(list_edges(list));
+    fn edges() -> Vec<Edge<Query>> {
+        let mut edges = block_edges();
+        edges.extend(grid_edges(|q: &mut Query| &mut q.args.grid));
+        edges.extend(column_edges(|q: &mut Query| &mut q.args.grid));
+        edges.extend(place_edges());
+        edges.extend(edges_of_lists(list_edges));
+        edges.extend(destination_edges());
+        edges.extend(chroma_edges());
+        edges
     }
-    // "in prediction anything of list 1 only when averaging"
-    edges.extend(list_edges(1).into_iter().map(|e| {
-        edge(0, move |q: &mut Query| {
-            (e.set)(q);
-            q.args.average = false;
+
+    /// Frames, references and destinations of the largest sizes, and every ratio's boundary.
+    fn large_queries() -> Numbered<Query> {
+        let mut queries = Vec::new();
+        for (number, frame, reference) in ratios() {
+            for list in 0..2 {
+                queries.push((number, wide_query(number, list, frame, reference)));
+                queries.push((number, high_query(number, list, frame, reference)));
+            }
+        }
+        for (number, width, height, x, y) in [
+            (0, 65_536, 1, 65_535, 0),
+            (0, 65_536, 1, 65_532, 0),
+            (0, 65_536, 1, 65_535, 1),
+            (0, 1, 65_536, 0, 65_535),
+            (0, 1, 65_536, 0, 65_532),
+            (7, 65_537, 1, 65_535, 0),
+            (7, 1, 65_537, 0, 65_535),
+        ] {
+            let mut q = Self::base();
+            (q.args.dst_width, q.args.dst_height) = (width, height);
+            (q.args.x, q.args.y) = (x, y);
+            q.out = width * height;
+            queries.push((number, q));
+        }
+        queries
+    }
+
+    fn placed() -> [Query; 3] {
+        [[0, 0], [8, -8], [3, 2]].map(|vector| {
+            let mut q = Self::base();
+            q.args.vectors = [[vector; 4]; 2];
+            q
         })
-    }));
-    edges.extend(destination_edges());
-    edges.extend(chroma_edges());
-    let scene = Scene::chance(&mut Rng::new(1, 400), 8, 1024);
-    (scene, spread(&base(), &edges))
+    }
+
+    fn chance(rng: &mut Rng, bits: u32) -> Query {
+        let mut q = Self::base();
+        let a = &mut q.args;
+        a.plane = rng.size(0, 2);
+        (a.sub_x, a.sub_y) = (rng.coin(), rng.coin());
+        (a.frame_width, a.frame_height) = (rng.within(1, 28), rng.within(1, 28));
+        a.average = rng.coin();
+        a.filter = rng.size(0, 3);
+        a.depth = chance_depth(rng, bits);
+        (a.w, a.h) = (chance_side(rng), chance_side(rng));
+        (a.dst_width, a.dst_height) = (rng.size(1, 22), rng.size(1, 22));
+        a.x = chance_place(rng, a.dst_width);
+        a.y = chance_place(rng, a.dst_height);
+        a.vectors = chance_vectors(rng);
+        a.grid = chance_grid(rng, a);
+        a.block = chance_block(rng, a);
+        q.out = a.dst_width * a.dst_height + rng.pick(&[0, 0, 1, 4]);
+        for list in 0..2 {
+            let (width, height) = (q.args.frame_width, q.args.frame_height);
+            q.resize(
+                list,
+                chance_reference(rng, width),
+                chance_reference(rng, height),
+            );
+            let (width, height) = q.size(list);
+            q.lent[list] = Lent::chance(rng, width, height);
+        }
+        q
+    }
+
+    fn spoil(q: &mut Query, list: usize, rng: &mut Rng) {
+        match rng.below(9) {
+            0 => q.args.w = 0,
+            1 => q.args.grid.mi_row = q.args.grid.mi_rows,
+            2 => q.args.filter = 4,
+            3 => q.args.refs[list].frame_width = 2 * q.args.frame_width + 1,
+            4 => q.args.x = rng.pick(&[-1, 65_536]),
+            5 => (q.lent[list].upper, q.lent[list].lower) = (0, 0),
+            6 => q.out -= 5.min(q.out),
+            7 => q.room -= 1,
+            _ => q.args.vectors[list][rng.size(0, 3)][0] = -32_768,
+        }
+    }
 }
 
 /// Rows 1 and 4 of the table.
 fn block_edges() -> Vec<Edge<Query>> {
-    let mut edges = Vec::new();
-    for (number, plane) in sizes_to(1, 2) {
-        edges.push(edge(number, move |q: &mut Query| q.args.plane = plane));
-    }
-    for (number, block) in sizes_to(1, 3) {
-        edges.push(edge(number, move |q: &mut Query| q.args.block = block));
-    }
-    for (number, side) in [
-        (0, 1),
-        (0, 64),
-        (1, 0),
-        (1, 65),
-        (1, 1 << 32),
-        (1, usize::MAX),
-    ] {
+    let mut edges = each(sizes_to(1, 2), |q: &mut Query, n| q.args.plane = n);
+    edges.extend(each(sizes_to(1, 3), |q: &mut Query, n| q.args.block = n));
+    for (number, side) in SIDES {
         edges.push(edge(number, move |q: &mut Query| q.args.w = side));
         edges.push(edge(number, move |q: &mut Query| q.args.h = side));
     }
-    for (number, filter) in sizes_to(4, 3) {
-        edges.push(edge(number, move |q: &mut Query| q.args.filter = filter));
-    }
-    for (number, depth) in [(0, 8), (0, 10), (0, 12), (4, 0), (4, 9), (4, 11), (4, 13)] {
-        edges.push(edge(number, move |q: &mut Query| q.args.depth = depth));
-    }
+    edges.extend(each(sizes_to(4, 3), |q: &mut Query, n| q.args.filter = n));
+    let depths = [(0, 8), (0, 10), (0, 12), (4, 0), (4, 9), (4, 11), (4, 13)];
+    edges.extend(each(depths, |q: &mut Query, n| q.args.depth = n));
     edges
 }
 
@@ -320,41 +285,35 @@ fn list_edges(list: usize) -> Vec<Edge<Query>> {
     for (width, height) in [(49, 10), (1, 10), (12, 41), (12, 1)] {
         edges.push(edge(5, move |q: &mut Query| q.resize(list, width, height)));
     }
-    edges.extend(lent_edges(list, base().size(list).1 as usize));
+    edges.extend(lent_edges(list, PredictArgs::base().size(list).1 as usize));
     for i in 0..8 {
-        for (number, value) in values_within(9, -32767, 32767) {
-            edges.push(edge(number, move |q: &mut Query| {
-                q.args.vectors[list][i / 2][i % 2] = value;
-            }));
-        }
+        edges.extend(component_edges(move |q: &mut Query, n| {
+            q.args.vectors[list][i / 2][i % 2] = n;
+        }));
     }
     edges
 }
 
 /// The destination's size and length, the room, and blocks that overhang it.
 fn destination_edges() -> Vec<Edge<Query>> {
-    let mut edges = Vec::new();
-    for (number, width, height) in [(0, 1, 84), (0, 84, 1), (0, 7, 12), (7, 0, 7), (7, 12, 0)] {
-        edges.push(edge(number, move |q: &mut Query| {
-            (q.args.dst_width, q.args.dst_height) = (width, height);
-        }));
-    }
-    for (width, height) in [
-        (1 << 32, 1),
-        (1, 1 << 32),
-        (usize::MAX, 1),
-        (usize::MAX, usize::MAX),
-    ] {
-        edges.push(edge(7, move |q: &mut Query| {
-            (q.args.dst_width, q.args.dst_height) = (width, height);
-        }));
-    }
-    for (number, dst) in [(7, 83), (7, 0), (0, 85), (0, 100)] {
-        edges.push(edge(number, move |q: &mut Query| q.dst = dst));
-    }
-    for (number, room) in [(7, ROOM - 1), (7, 0), (0, ROOM + 1)] {
-        edges.push(edge(number, move |q: &mut Query| q.room = room));
-    }
+    let sizes = [
+        (0, (1, 84)),
+        (0, (84, 1)),
+        (0, (7, 12)),
+        (7, (0, 7)),
+        (7, (12, 0)),
+        (7, (1 << 32, 1)),
+        (7, (1, 1 << 32)),
+        (7, (usize::MAX, 1)),
+        (7, (usize::MAX, usize::MAX)),
+    ];
+    let mut edges = each(sizes, |q: &mut Query, size| {
+        (q.args.dst_width, q.args.dst_height) = size;
+    });
+    let lengths = [(7, 83), (7, 0), (0, 85), (0, 100)];
+    edges.extend(each(lengths, |q: &mut Query, n| q.out = n));
+    let rooms = [(7, ROOM - 1), (7, 0), (0, ROOM + 1)];
+    edges.extend(each(rooms, |q: &mut Query, n| q.room = n));
     // The block just inside, one over, one sample inside, just beyond.
     for (x, y) in [
         (7, 3),
@@ -375,8 +334,8 @@ fn destination_edges() -> Vec<Edge<Query>> {
     edges
 }
 
-/// Every sub-block under every subsampling in chroma, below and from 8x8 on; and frames of odd size,
-/// whose halves are rounded up.
+/// Every sub-block under every subsampling in chroma, below and from 8x8 on; and frames of odd
+/// size, whose halves are rounded up.
 fn chroma_edges() -> Vec<Edge<Query>> {
     let missing = [(false, true, 2), (false, true, 3), (true, false, 3)];
     let mut edges = Vec::new();
@@ -394,7 +353,7 @@ fn chroma_edges() -> Vec<Edge<Query>> {
                 (q.args.frame_width, q.args.frame_height) = (width, height);
                 q.resize(0, width, height);
                 q.resize(1, width, height);
-                q.refit(1);
+                refit_both(q, 1);
             }));
         }
     }
@@ -405,132 +364,57 @@ fn chroma_edges() -> Vec<Edge<Query>> {
 /// A frame of 23 by 19, both halved: 12 by 10 samples, in bands of 1 and 9 rows that are exactly
 /// long enough or one short.
 fn rounded_edges() -> Vec<Edge<Query>> {
-    let lengths = [(0, 12, 108), (7, 11, 108), (7, 12, 107)];
-    let set = |(number, upper, lower)| {
-        edge(number, move |q: &mut Query| {
-            (q.args.plane, q.args.sub_x, q.args.sub_y) = (1, true, true);
-            (q.args.frame_width, q.args.frame_height) = (23, 19);
-            q.resize(0, 23, 19);
-            q.lent[0] = Lent {
-                stride: 12,
-                upper_rows: 1,
-                upper,
-                lower,
-            };
-        })
-    };
-    lengths.into_iter().map(set).collect()
+    let lengths = [(0, (12, 108)), (7, (11, 108)), (7, (12, 107))];
+    each(lengths, |q: &mut Query, (upper, lower)| {
+        (q.args.plane, q.args.sub_x, q.args.sub_y) = (1, true, true);
+        (q.args.frame_width, q.args.frame_height) = (23, 19);
+        q.resize(0, 23, 19);
+        q.lent[0] = Lent {
+            stride: 12,
+            upper_rows: 1,
+            upper,
+            lower,
+        };
+    })
 }
 
-/// Frames, references and destinations of the largest sizes, and every ratio's boundary.
-fn large_stage() -> (Scene, Numbered<Query>) {
-    let scene = Scene::chance(&mut Rng::new(2, 400), 8, LONGEST);
-    let mut queries = Vec::new();
-    for (number, frame, reference) in ratios() {
-        for list in 0..2 {
-            queries.push((number, wide_query(number, list, frame, reference)));
-            queries.push((number, high_query(number, list, frame, reference)));
-        }
+/// Both references lent in one way that suits their sizes.
+fn refit_both(q: &mut Query, upper_rows: usize) {
+    for list in 0..2 {
+        let (width, height) = q.size(list);
+        refit(q, list, width as usize, upper_rows.min(height as usize));
     }
-    for (number, width, height, x, y) in [
-        (0, 65_536, 1, 65_535, 0),
-        (0, 65_536, 1, 65_532, 0),
-        (0, 65_536, 1, 65_535, 1),
-        (0, 1, 65_536, 0, 65_535),
-        (0, 1, 65_536, 0, 65_532),
-        (7, 65_537, 1, 65_535, 0),
-        (7, 1, 65_537, 0, 65_535),
-    ] {
-        let mut q = base();
-        (q.args.dst_width, q.args.dst_height) = (width, height);
-        (q.args.x, q.args.y) = (x, y);
-        q.dst = width * height;
-        queries.push((number, q));
-    }
-    (scene, queries)
 }
 
 /// A frame of two rows, so that each band has one row; the other list's reference has its size. The
 /// block lies at the frame's right end, in a destination of one row.
 fn wide_query(number: u32, list: usize, frame: i32, reference: i32) -> Query {
-    let mut q = base();
+    let mut q = PredictArgs::base();
     (q.args.frame_width, q.args.frame_height) = (frame, 2);
     q.resize(1 - list, frame, 2);
     q.resize(list, reference, 2);
     let width = frame.clamp(8, 65_536);
     (q.args.x, q.args.y) = (width - 8, 0);
     (q.args.dst_width, q.args.dst_height) = (width as usize, 1);
-    q.dst = width as usize;
+    q.out = width as usize;
     if number == 0 {
-        q.refit(1);
+        refit_both(&mut q, 1);
     }
     q
 }
 
 /// The same of a frame of one column.
 fn high_query(number: u32, list: usize, frame: i32, reference: i32) -> Query {
-    let mut q = base();
+    let mut q = PredictArgs::base();
     (q.args.frame_width, q.args.frame_height) = (1, frame);
     q.resize(1 - list, 1, frame);
     q.resize(list, 1, reference);
     let height = frame.clamp(8, 65_536);
     (q.args.x, q.args.y) = (0, height - 8);
     (q.args.dst_width, q.args.dst_height) = (1, height as usize);
-    q.dst = height as usize;
+    q.out = height as usize;
     if number == 0 {
-        q.refit(reference as usize / 2);
-    }
-    q
-}
-
-/// Samples above the depth, at whole and at other positions.
-fn deep_stage() -> (Scene, Numbered<Query>) {
-    let scene = Scene::chance(&mut Rng::new(3, 400), 16, 1024);
-    let mut queries = Vec::new();
-    for depth in [8, 10, 12] {
-        for vector in [[0, 0], [8, -8], [3, 2]] {
-            for average in [false, true] {
-                let mut q = base();
-                (q.args.depth, q.args.average) = (depth, average);
-                q.args.vectors = [[vector; 4]; 2];
-                queries.push((0, q));
-            }
-        }
-    }
-    (scene, queries)
-}
-
-// Queries by chance.
-
-fn chance_query(rng: &mut Rng, bits: u32) -> Query {
-    let mut q = base();
-    let a = &mut q.args;
-    a.plane = rng.size(0, 2);
-    (a.sub_x, a.sub_y) = (rng.coin(), rng.coin());
-    (a.frame_width, a.frame_height) = (rng.within(1, 28), rng.within(1, 28));
-    a.average = rng.coin();
-    a.filter = rng.size(0, 3);
-    a.depth = chance_depth(rng, bits);
-    (a.w, a.h) = (chance_side(rng), chance_side(rng));
-    (a.dst_width, a.dst_height) = (rng.size(1, 22), rng.size(1, 22));
-    a.x = chance_place(rng, a.dst_width);
-    a.y = chance_place(rng, a.dst_height);
-    a.vectors = chance_vectors(rng);
-    a.grid = chance_grid(rng, a);
-    a.block = chance_block(rng, a);
-    q.dst = a.dst_width * a.dst_height + rng.pick(&[0, 0, 1, 4]);
-    for list in 0..2 {
-        let (width, height) = (q.args.frame_width, q.args.frame_height);
-        q.resize(
-            list,
-            chance_reference(rng, width),
-            chance_reference(rng, height),
-        );
-        let (width, height) = q.size(list);
-        q.lent[list] = Lent::chance(rng, width, height);
-    }
-    if rng.once_in(25) {
-        spoil(rng, &mut q);
+        refit_both(&mut q, reference as usize / 2);
     }
     q
 }
@@ -593,48 +477,5 @@ fn chance_block(rng: &mut Rng, a: &PredictArgs) -> usize {
         3
     } else {
         rng.size(0, last)
-    }
-}
-
-/// One wrong thing.
-fn spoil(rng: &mut Rng, q: &mut Query) {
-    let list = rng.size(0, 1);
-    match rng.below(9) {
-        0 => q.args.w = 0,
-        1 => q.args.grid.mi_row = q.args.grid.mi_rows,
-        2 => q.args.filter = 4,
-        3 => q.args.refs[list].frame_width = 2 * q.args.frame_width + 1,
-        4 => q.args.x = rng.pick(&[-1, 65_536]),
-        5 => (q.lent[list].upper, q.lent[list].lower) = (0, 0),
-        6 => q.dst -= 5.min(q.dst),
-        7 => q.room -= 1,
-        _ => q.args.vectors[list][rng.size(0, 3)][0] = -32_768,
-    }
-}
-
-#[cfg(test)]
-mod tests {
-    use super::super::tests::stages;
-    use super::*;
-
-    /// The Rust and document 01's definition, over every accepted case within the depth.
-    #[test]
-    fn door_and_plain_agree() {
-        let mut compared = 0;
-        for (scene, queries) in &stages::<Predict>(100) {
-            for q in queries {
-                let args = q.args(scene);
-                if Predict::number(scene, q) != 0 || above_depth(q, &args) {
-                    continue;
-                }
-                let before: Vec<u16> = (0..q.dst).map(before).collect();
-                let mut both = [before.clone(), before];
-                predict(args.clone(), false, &mut both[0]);
-                predict(args, true, &mut both[1]);
-                assert_eq!(both[0], both[1], "{q:?}");
-                compared += 1;
-            }
-        }
-        assert!(compared > 3000, "{compared}");
     }
 }

@@ -24,10 +24,7 @@ impl Fixed for ScaleArgs {
     }
 
     fn edges() -> Vec<Edge<Self>> {
-        let mut edges = Vec::new();
-        for (number, plane) in sizes_to(1, 2) {
-            edges.push(edge(number, move |a: &mut ScaleArgs| a.plane = plane));
-        }
+        let mut edges = each(sizes_to(1, 2), |a: &mut ScaleArgs, n| a.plane = n);
         for (number, frame, reference) in ratios() {
             edges.push(edge(number, move |a: &mut ScaleArgs| {
                 (a.frame_width, a.ref_width) = (frame, reference);

@@ -179,7 +179,7 @@ fn read_search(r: &mut Reader) -> Read<Query> {
         *bias = r.bool()?;
     }
     s.use_prev = r.bool()?;
-    r.align()?;
+    r.align(8)?;
     if query
         .lengths
         .iter()

@@ -1,5 +1,5 @@
-//! What is asked of the search: scenes for each boundary, and scenes by chance. `least_block` is the
-//! least sub-block that the call takes: -1 for `find_mv_refs`, 0 for `append_sub8x8_mvs`.
+//! What is asked of the search: scenes for each boundary, and scenes by chance. `least_block` is
+//! the least sub-block that the call takes: -1 for `find_mv_refs`, 0 for `append_sub8x8_mvs`.
 
 use super::edges::*;
 use super::rng::Rng;
@@ -111,11 +111,9 @@ fn length_edges() -> Vec<Edge<Query>> {
 fn block_vector_edges() -> Vec<Edge<Query>> {
     let mut edges = Vec::new();
     for i in 0..8 {
-        for (number, value) in values_within(9, -32767, 32767) {
-            edges.push(edge(number, move |q: &mut Query| {
-                q.args.block_vectors[i / 2][i % 2] = value;
-            }));
-        }
+        edges.extend(component_edges(move |q: &mut Query, n| {
+            q.args.block_vectors[i / 2][i % 2] = n;
+        }));
     }
     // Which of the first three are equal, by the bits of `same`.
     for block in 0..4 {
@@ -231,8 +229,8 @@ fn lower_numbers(query: &Query) -> Numbered<Query> {
     edges.iter().map(set).collect()
 }
 
-/// Every two kinds of mode: a block of size 0 in the second of two rows counts the cell above it and
-/// the one before it, unless the tile begins with the block. Kind 11 counts as 10 does.
+/// Every two kinds of mode: a block of size 0 in the second of two rows counts the cell above it
+/// and the one before it, unless the tile begins with the block. Kind 11 counts as 10 does.
 fn context_stage() -> (Scene, Numbered<Query>) {
     const KINDS: [u8; 4] = [5, 10, 12, 13];
     let cols = 2 * KINDS.len() * KINDS.len();
@@ -296,8 +294,8 @@ fn equal_stage(least_block: i32) -> (Scene, Numbered<Query>) {
     (scene, queries)
 }
 
-/// A single row of cells: a block of size 0 with a tile of two columns consults only the cell before
-/// it. Each such cell has one value at a boundary of what is legal.
+/// A single row of cells: a block of size 0 with a tile of two columns consults only the cell
+/// before it. Each such cell has one value at a boundary of what is legal.
 fn record_stages() -> Vec<(Scene, Numbered<Query>)> {
     let mut stages = Vec::new();
     let current = current_values();

@@ -22,18 +22,11 @@ impl Fixed for SelectArgs {
     }
 
     fn edges() -> Vec<Edge<Self>> {
-        let mut edges = Vec::new();
-        for (number, size) in [(0, 0), (0, 12), (1, 13), (1, 255)] {
-            edges.push(edge(number, move |a: &mut SelectArgs| a.mi_size = size));
-        }
-        for (number, plane) in sizes_to(1, 2) {
-            edges.push(edge(number, move |a: &mut SelectArgs| a.plane = plane));
-        }
-        for (number, block) in sizes_to(1, 3) {
-            edges.push(edge(number, move |a: &mut SelectArgs| a.block = block));
-        }
+        let mut edges = each(BLOCK_SIZES, |a: &mut SelectArgs, n| a.mi_size = n);
+        edges.extend(each(sizes_to(1, 2), |a: &mut SelectArgs, n| a.plane = n));
+        edges.extend(each(sizes_to(1, 3), |a: &mut SelectArgs, n| a.block = n));
         edges.extend(partner_edges());
-        edges.extend(component_edges());
+        edges.extend(vector_edges());
         edges.extend(rounding_edges());
         edges
     }
@@ -112,14 +105,12 @@ fn corners() -> impl Iterator<Item = (usize, usize, u8)> {
 }
 
 /// "any of all sixteen components", also of the list that isn't asked for.
-fn component_edges() -> Vec<Edge<SelectArgs>> {
+fn vector_edges() -> Vec<Edge<SelectArgs>> {
     let mut edges = Vec::new();
     for i in 0..16 {
-        for (number, value) in values_within(9, -32767, 32767) {
-            edges.push(edge(number, move |a: &mut SelectArgs| {
-                a.vectors[i / 8][i / 2 % 4][i % 2] = value;
-            }));
-        }
+        edges.extend(component_edges(move |a: &mut SelectArgs, n| {
+            a.vectors[i / 8][i / 2 % 4][i % 2] = n;
+        }));
     }
     edges
 }

@@ -2,7 +2,6 @@
 //! the versions that its section 'What each promise has to say' wants refuted, are put in the place
 //! of what is tested: each must differ from the oracle somewhere, and without a slip nothing may.
 
-use super::block::Block;
 use super::search::Find;
 use super::staged::Staged;
 use super::tests::stages;
@@ -275,8 +274,8 @@ fn at(b: &Bands, row: i32, column: i32) -> i32 {
 /// In how many of the accepted block predictions the slip shows.
 fn block_differences(slip: BlockSlip) -> usize {
     let mut differences = 0;
-    for (scene, queries) in stages::<Block>(30) {
-        for q in queries.iter().filter(|q| Block::number(&scene, q) == 0) {
+    for (scene, queries) in stages::<BlockArgs>(30) {
+        for q in queries.iter().filter(|q| BlockArgs::number(&scene, q) == 0) {
             differences += usize::from(block_differs(&q.args(&scene), slip));
         }
     }
@@ -290,7 +289,7 @@ fn block_differs(a: &BlockArgs, slip: BlockSlip) -> bool {
     let mut places = (0..a.h).flat_map(|r| (0..a.w).map(move |c| (r, c)));
     places.any(|(r, c)| {
         let value = match slip {
-            BlockSlip::WritesNothing => super::planes::before(r * a.stride + c),
+            BlockSlip::WritesNothing => super::prediction::before(r * a.stride + c),
             _ => slipped(a, slip, r, c),
         };
         value != out[r * a.stride + c]

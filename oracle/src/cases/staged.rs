@@ -1,5 +1,5 @@
-//! Files of the calls that read lent buffers: scenes, each with the contents of the buffers and then
-//! the queries that are asked of them.
+//! Files of the calls that read lent buffers: scenes, each with the contents of the buffers and
+//! then the queries that are asked of them.
 
 use super::bytes::{Read, Reader, Writer};
 use super::rng::Rng;

@@ -162,8 +162,8 @@ fn edges_give_the_number_they_were_written_for() {
         hold_staged::<Find>(),
         hold_staged::<Append>(),
         hold_staged::<RowRead>(),
-        hold_staged::<Block>(),
-        hold_staged::<Predict>(),
+        hold_staged::<BlockArgs>(),
+        hold_staged::<PredictArgs>(),
     ];
     assert_eq!(counts, [307, 158, 134, 178, 491, 569, 130, 400, 613]);
 }

@@ -10,11 +10,10 @@ use crate::terms::*;
 
 /// The references as flat planes, our two bands joined.
 pub fn predict_inter(a: &PredictArgs, dst: &mut [u16]) {
-    let flat = [0, 1].map(|i| rows::join(&a.refs[i].bands));
+    let flat = of_used(a, |r| rows::join(&r.bands));
     let list = [0, 1].map(|i| {
-        let used = i == 0 || a.average;
-        used.then_some(RefPlane {
-            samples: &flat[i],
+        Some(RefPlane {
+            samples: flat[i].as_deref()?,
             ..described(&a.refs[i])
         })
     });
@@ -24,15 +23,20 @@ pub fn predict_inter(a: &PredictArgs, dst: &mut [u16]) {
 /// The references in the decoder's own storage, bands of a superblock's height: what a real decoder
 /// reads from. For references that hold what they have to.
 pub fn predict_inter_banded(a: &PredictArgs, dst: &mut [u16]) {
-    let stored = [0, 1].map(|i| (i == 0 || a.average).then(|| frame_buf(a, &a.refs[i])));
+    let stored = of_used(a, |r| frame_buf(a, r));
     let list = [0, 1].map(|i| {
-        let frame = stored[i].as_ref()?;
         Some(RefPlane {
-            bands: Some((frame, a.plane)),
+            bands: Some((stored[i].as_ref()?, a.plane)),
             ..described(&a.refs[i])
         })
     });
     run(a, RefPlanes { list }, dst);
+}
+
+/// What `make` makes of each list's reference. Without averaging list 1 may lend nonsense, and is
+/// not looked at.
+fn of_used<T>(a: &PredictArgs, make: impl Fn(&FrameReference) -> T) -> [Option<T>; 2] {
+    [0, 1].map(|list| (list == 0 || a.average).then(|| make(&a.refs[list])))
 }
 
 fn described(r: &FrameReference) -> RefPlane<'static> {
