@@ -1,6 +1,6 @@
--- A signed number lifted by k above zero and cast to an unsigned type, at any width. Assumes nothing.
+-- A signed number lifted by k above zero and cast to an unsigned type, at any width; a 32-bit one read back. Assumes nothing.
 use mathlib.Core.Path.{_≡_}
-use Prim.Native.Nat.{ℕ, _<_, _≤_, _^_}
+use Prim.Native.Nat.{ℕ, _<_, _^_}
 use native.Mathlib.Omega.{arith}
 use lib.Dec.{T}
 use lib.IntN.{ℤ, pos, negsuc, _+ℤ_, natAbs}
@@ -28,6 +28,6 @@ module _ (w v : Width) (z : ℤ) (k n : ℕ) (fits : SFits w z) (e : z +ℤ pos 
 pub read-back : (z : ℤ) → mag z < 2147483648 → toZ w32 (ofZ w32 z) ≡ z
 read-back z h = toZ-ofZ {w = w32} {z = z} (record { sfits = h })
 
-pub small-nat : (z : ℤ) → mag z < 2147483648 → toN z ≤ 2147483648
-small-nat (pos n) h = omega arith
+pub small-nat : (z : ℤ) → mag z < 2147483648 → toN z < 2147483648
+small-nat (pos n) h = h
 small-nat (negsuc n) h = omega arith

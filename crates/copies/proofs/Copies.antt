@@ -1,36 +1,17 @@
--- Laws of rows of copies: runs written one after the other, and rows of a rectangle. Assumes nothing.
+-- Laws of rows of copies: copies from a place further on, and a row near an edge in three runs. Assumes nothing.
 use mathlib.Core.Path.{_≡_, refl, sym, ap, _∙_}
 use mathlib.Core.List.{List}
-use Prim.Native.Nat.{ℕ, zero, suc, _+_, _-_, _≤_, _<_, min}
+use Prim.Native.Nat.{ℕ, _+_, _-_, _≤_, _<_, min}
 use native.Mathlib.Nat.{add-zero, zero-add, add-assoc}
 use native.Mathlib.Omega.{arith}
-use lib.ListN.{length, set, getD}
+use lib.ListN.{getD}
 use mir.Syntax.{w64}
 use mir.Val.{Fits}
 use Rattle.base.specs.Paint.{fill}
-use Rattle.base.proofs.Painted.{length-fill, fill-same}
 use Rattle.taps.specs.Kernel.{alike, clipped, heldFrom, listed}
 use Rattle.copies.specs.Copy.{threeRuns, still}
-use Rattle.taps.proofs.Loops.{Filling, fill-none}
-
--- a run of m and, after it, one of n more
-pub fill-more : (l : List ℕ) (at m n : ℕ) (f : ℕ → ℕ) → fill (fill l at m f) (at + m) n (λ (c : ℕ). f (m + c)) ≡ fill l at (m + n) f
-unfolding fill
-fill-more l at m zero f = rw (add-zero m) refl
-fill-more l at m (suc n) f =
-    let e : m + suc n ≡ suc (m + n) = omega arith in
-    rw (e, fill-more l at m n f) (ap (λ (k : ℕ). set (fill l at (m + n) f) k (f (m + n))) (add-assoc at m n))
-
--- a loop, or a list of calls, that writes n numbers more
-pub run-turn : {l : List ℕ} {at m : ℕ} {f : ℕ → ℕ} {now next : List ℕ} (from n end : ℕ) (g : ℕ → ℕ) → Filling l at m f now
-    → from ≡ at + m → end ≡ m + n → next ≡ fill now from n g → ((k : ℕ) → k < n → g k ≡ f (m + k)) → Filling l at end f next
-run-turn {l} {at} {m} {f} {now} {next} from n end g s p e written same = record {
-  is =
-      written
-      ∙ fill-same now from n g _ same
-      ∙ rw (p, e, s .is) (fill-more l at m n f);
-  long = ap length written ∙ length-fill now from n g ∙ s .long;
-}
+use Rattle.taps.proofs.Loops.{fill-none}
+use Rattle.taps.proofs.Runs.{run-turn}
 
 -- copies from a place further on
 pub clipped-on : (max : ℕ) (l : List ℕ) (b c k : ℕ) → clipped max l (b + c) k ≡ clipped max l b (c + k)

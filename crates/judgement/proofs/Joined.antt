@@ -2,10 +2,9 @@
 use mathlib.Core.Path.{_≡_, refl, ap, _∙_}
 use mathlib.Core.Bool.{Bool, true, false, _&&_, cond}
 use mathlib.Core.List.{List, [], _∷_}
-use Prim.Native.Nat.{ℕ, _+_, _/_, _<_, _≤_}
+use Prim.Native.Nat.{ℕ, _+_, _/_, _≤_}
 use native.Mathlib.Omega.{arith}
-use lib.IntN.{ℤ, pos, negsuc}
-use lib.Signed.{mag}
+use lib.IntN.{ℤ, pos}
 use lib.Dec.{eqb, leb}
 use lib.ListN.{getD}
 use borrow.Author.Tests.{le-leb, lt-ltb}
@@ -33,11 +32,6 @@ use Rattle.judgement.specs.declared.judging.InterPredArgs.{InterPredArgs
 use Rattle.judgement.specs.declared.judging.FrameGeom.{FrameGeom}
 use Rattle.judgement.specs.declared.judging.RefGeom.{RefGeom}
 use Rattle.judgement.specs.declared.judging.Led.{Led}
-
--- a frame's side of 32 bits
-pub small-nat : (z : ℤ) → mag z < 2147483648 → toN z < 2147483648
-small-nat (pos n) h = h
-small-nat (negsuc n) h = omega arith
 
 -- a choice whose test passes
 taken : {A : Type 0} (t : Bool) (x y : A) → t ≡ true → x ≡ cond t x y

@@ -36,12 +36,12 @@ pub eight-written : (l : List ℕ) (at : ℕ) (f : ℕ → ℕ)
 unfolding fill
 eight-written l at f = rw add-zero refl
 
--- a buffer filled so far, and eight numbers more
-pub fill-eight : {l : List ℕ} {at n : ℕ} {f g : ℕ → ℕ} {now next : List ℕ} → Filling l at n f now → next ≡ fill now (at + n) 8 g
-    → ((k : ℕ) → k < 8 → g k ≡ f (n + k)) → Filling l at (n + 8) f next
-fill-eight {l} {at} {n} {f} {g} {now} {next} s e same = record {
-  is = e ∙ ap (λ (x : List ℕ). fill x (at + n) 8 g) (s .is) ∙ fill-join l at n 8 f g f (λ c h. refl) same;
-  long = ap length e ∙ length-fill now (at + n) 8 g ∙ s .long;
+-- a buffer filled so far, and n numbers more: a turn of a loop, or one of a list of calls
+pub run-turn : {l : List ℕ} {at m : ℕ} {f : ℕ → ℕ} {now next : List ℕ} (from n end : ℕ) (g : ℕ → ℕ) → Filling l at m f now
+    → from ≡ at + m → end ≡ m + n → next ≡ fill now from n g → ((k : ℕ) → k < n → g k ≡ f (m + k)) → Filling l at end f next
+run-turn {l} {at} {m} {f} {now} {next} from n end g s p e written same = record {
+  is = written ∙ rw (p, e, s .is) (fill-join l at m n f g f (λ c h. refl) same);
+  long = ap length written ∙ length-fill now from n g ∙ s .long;
 }
 
 -- where the runs of a gathered line end, each fact by itself, since omega splits few cases

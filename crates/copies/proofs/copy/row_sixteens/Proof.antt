@@ -5,7 +5,8 @@ use native.Mathlib.Nat.{add-assoc}
 use native.Mathlib.Omega.{arith}
 use Rattle.taps.specs.Kernel.{clipped}
 use Rattle.taps.proofs.Loops.{Filling, fill-none}
-use Rattle.copies.proofs.Copies.{run-turn, clipped-on}
+use Rattle.taps.proofs.Runs.{run-turn}
+use Rattle.copies.proofs.Copies.{clipped-on}
 use Rattle.copies.proofs.copy.row_sixteens.Statement.{statement}
 use Rattle.copies.proofs.copy.row_sixteens.Tie as tie
 

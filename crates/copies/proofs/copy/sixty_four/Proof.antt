@@ -4,7 +4,8 @@ use Prim.Native.Nat.{_+_, _-_, _%_, _≤_}
 use native.Mathlib.Omega.{arith}
 use Rattle.taps.specs.Kernel.{clipped}
 use Rattle.taps.proofs.Loops.{Filling, fill-none}
-use Rattle.copies.proofs.Copies.{run-turn, clipped-on}
+use Rattle.taps.proofs.Runs.{run-turn}
+use Rattle.copies.proofs.Copies.{clipped-on}
 use Rattle.copies.proofs.copy.sixty_four.Statement.{statement}
 use Rattle.copies.proofs.copy.sixty_four.Tie as tie
 

@@ -7,7 +7,7 @@ use mir.Syntax.{w32}
 use mir.Facts.{toZ-ofZ, toZ-pos}
 use Rattle.base.specs.Position.{toN}
 use Rattle.judgement.specs.Whole.{extent}
-use Rattle.judgement.proofs.Joined.{small-nat}
+use Rattle.base.proofs.Casts.{small-nat}
 use borrow.Author.Needs.{needs}
 use Rattle.judgement.proofs.judging.extent.Statement.{statement}
 use Rattle.judgement.proofs.judging.extent.Tie as tie

@@ -1,10 +1,10 @@
 -- `lanes::lanes::row_low_down` meets its contract. The loop keeps up that c results are written, eight at a time. Assumes nothing.
 use Prim.Native.Nat.{_-_, _%_, _≤_}
 use Rattle.taps.proofs.Loops.{Filling, fill-none}
-use Rattle.taps.proofs.Runs.{fill-eight}
+use Rattle.taps.proofs.Runs.{run-turn}
 use Rattle.taps.specs.Kernel.{lowRan}
 use borrow.Author.Needs.{needs}
-use mathlib.Core.Path.{_≡_}
+use mathlib.Core.Path.{_≡_, refl}
 use native.Mathlib.Nat.{add-assoc}
 use native.Mathlib.Omega.{arith}
 use Rattle.lanes.proofs.lanes.row_low_down.Statement.{statement}
@@ -39,7 +39,7 @@ unfolding lowRan
 loop-again c =
     let e = c .before .before in
     let l = e .before .before .before .loop in
-    (omega arith, omega arith, fill-eight (l .inv .2) (e .eight-down .ensures) (λ k h. rw add-assoc))
+    (omega arith, omega arith, run-turn _ 8 _ _ (l .inv .2) refl refl (e .eight-down .ensures) (λ k h. rw add-assoc))
 
 same-length : tie.Need-same-length Inv-loop μ-loop
 same-length c = c .before .loop .inv .2 .long

@@ -1,4 +1,5 @@
 -- `planes::plane::fits` meets its contract. Assumes nothing.
+use native.Mathlib.Omega.{arith}
 use borrow.Author.Needs.{needs}
 use Rattle.planes.specs.Plane.{fits}
 use Rattle.base.proofs.Casts.{read-back, small-nat}
@@ -17,7 +18,7 @@ bands-fit-requires c κs =
     let s = t .before .before .before in
     let g = s .args .geom in
     let k = t .struct-told .given in
-    rw (c .natural2 .ensures, read-back (g .height) (k .1 .0 .1)) (small-nat (g .height) (k .1 .0 .1))
+    rw (c .natural2 .ensures, read-back (g .height) (k .1 .0 .1)) (omega (arith, small-nat (g .height) (k .1 .0 .1)))
 
 returns : tie.Need-returns
 unfolding fits

@@ -5,8 +5,7 @@ use native.Mathlib.Nat.{mul-le-mul}
 use native.Mathlib.Omega.{arith}
 use borrow.Author.Needs.{needs}
 use Rattle.base.specs.Position.{toN}
-use Rattle.base.proofs.Casts.{read-back}
-use Rattle.judgement.proofs.Joined.{small-nat}
+use Rattle.base.proofs.Casts.{read-back, small-nat}
 use Rattle.prediction.proofs.inter_pred.first_in.Statement.{statement}
 use Rattle.prediction.proofs.inter_pred.first_in.Tie as tie
 
