@@ -1,4 +1,4 @@
-// Rows of copies. Only `samples` calls it.
+// Rows of copies. Only `passes` calls it.
 mod copy;
 
 pub use copy::row_held;

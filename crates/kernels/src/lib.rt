@@ -1,4 +1,4 @@
-// Rows of results whatever the step and wherever the plane ends. Only `samples` calls it.
+// Rows of results whatever the step and wherever the plane ends. Only `passes` calls it.
 mod down;
 mod rows;
 

@@ -1,4 +1,4 @@
-// Rows of results of one phase, in 16-bit lanes. Only `kernels` and `samples` call it.
+// Rows of results of one phase, in 16-bit lanes. Only `kernels` and `passes` call it.
 mod lanes;
 
 pub use lanes::rows_across;

@@ -1,4 +1,4 @@
-// Both passes over a block. Only `samples` calls it.
+// Both passes over a block. Only `blocks` calls it.
 mod passes;
 
 pub use passes::block;
