@@ -423,7 +423,7 @@ fn bytes_across(
     stride: usize,
 )
     requires { ⌜ IsTaps p ⌝ }
-    requires { ⌜ (p .filter < 4) × (p .phase < 16) × (0 < h) ⌝ }
+    requires { ⌜ 0 < h ⌝ }
     requires { ⌜ (b + (h - 1) * line + w + 7 ≤ length (now l)) × (at + (h - 1) * stride + w ≤ length (now out)) ⌝ }
     requires { ⌜ UpToRows 255 (now l) b line (w + 7) h ⌝ }
     ensures { λ _. ⌜ now (out .exit) ≡ fillRows (now (out .entry)) at stride w h (ranRows 255 (tap (p .filter) (p .phase)) (now (l .entry)) 1 b line) ⌝ }
@@ -454,7 +454,7 @@ fn bytes_down(
     stride: usize,
 )
     requires { ⌜ IsTaps p ⌝ }
-    requires { ⌜ (p .filter < 4) × (p .phase < 16) × (0 < h) ⌝ }
+    requires { ⌜ 0 < h ⌝ }
     requires { ⌜ (b + (h - 1) * 64 + w + 448 ≤ length (now l)) × (at + (h - 1) * stride + w ≤ length (now out)) ⌝ }
     requires { ⌜ BelowRows 255 (now l) b w h ⌝ }
     ensures { λ _. ⌜ now (out .exit) ≡ fillRows (now (out .entry)) at stride w h (ranRows 255 (tap (p .filter) (p .phase)) (now (l .entry)) 64 b 64) ⌝ }
@@ -488,7 +488,7 @@ pub fn rows_across(
     stride: usize,
 )
     requires { ⌜ IsTaps p ⌝ }
-    requires { ⌜ (p .filter < 4) × (p .phase < 16) × (0 < w) × (0 < h) ⌝ }
+    requires { ⌜ (0 < w) × (0 < h) ⌝ }
     requires { ⌜ (b + (h - 1) * line + w + 7 ≤ length (now l)) × (at + (h - 1) * stride + w ≤ length (now out)) ⌝ }
     requires { ⌜ max ≤ 4095 ⌝ }
     ensures { λ _. ⌜ now (out .exit) ≡ fillRows (now (out .entry)) at stride w h (ranRows max (tap (p .filter) (p .phase)) (now (l .entry)) 1 b line) ⌝ }
@@ -515,7 +515,7 @@ pub fn rows_down(
     stride: usize,
 )
     requires { ⌜ IsTaps p ⌝ }
-    requires { ⌜ (p .filter < 4) × (p .phase < 16) × (0 < h) ⌝ }
+    requires { ⌜ 0 < h ⌝ }
     requires { ⌜ (b + (h - 1) * 64 + w + 448 ≤ length (now l)) × (at + (h - 1) * stride + w ≤ length (now out)) ⌝ }
     requires { ⌜ BelowRows max (now l) b w h ⌝ }
     requires { ⌜ max ≤ 4095 ⌝ }

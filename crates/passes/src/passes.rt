@@ -404,7 +404,7 @@ fn pass_down_even(
     stride: usize,
 )
     requires { ⌜ IsTaps p ⌝ }
-    requires { ⌜ (p .filter < 4) × (p .phase < 16) × (w ≤ 64) × (0 < h) × (h ≤ 64) × (8576 ≤ length (now room)) × (max ≤ 4095) ⌝ }
+    requires { ⌜ (w ≤ 64) × (0 < h) × (h ≤ 64) × (8576 ≤ length (now room)) × (max ≤ 4095) ⌝ }
     requires { ⌜ holds h stride w (length (now out)) ≡ true ⌝ }
     requires { ⌜ HeldRoom max (now room) (h + 7) w ⌝ }
     ensures { λ _. ⌜ now (out .exit) ≡ paint (now (out .entry)) stride w h (downEven max (tap (p .filter) (p .phase)) (now (room .entry))) ⌝ }

@@ -28,7 +28,7 @@ below s =
 rows-down-requires : tie.Need-rows-down-requires
 rows-down-requires c κs =
     let s = c .before .before .before in
-    (s .pre .0, (omega (arith, s .pre .1 .0), (omega (arith, s .pre .1 .0, in-out s), (below s, s .pre .1 .0 .6))))
+    (s .pre .0, (omega (arith, s .pre .1 .0), (omega (arith, s .pre .1 .0, in-out s), (below s, s .pre .1 .0 .4))))
 
 same-length : tie.Need-same-length
 same-length c = search needs
