@@ -7,21 +7,21 @@ use native.Mathlib.Nat.{add-zero, add-suc, add-assoc, min-le-right, not-suc-le-z
 use native.Mathlib.Omega.{arith}
 use lib.ListN.{length, getD, set}
 use Rattle.base.specs.Paint.{fill}
-use Rattle.base.proofs.Painted.{length-fill, fill-at, fill-else, fill-same, lt-or-ge}
+use Rattle.base.proofs.Painted.{length-fill, fill-at, fill-else, lt-or-ge}
 use Rattle.taps.specs.Kernel.{Gathered, alike, onward, heldFrom}
 use Rattle.taps.proofs.Loops.{Filling}
 
 -- two runs, the second where the first ends
-pub fill-join : (l : List ℕ) (at n k : ℕ) (f g h : ℕ → ℕ) → ((c : ℕ) → c < n → f c ≡ h c) → ((c : ℕ) → c < k → g c ≡ h (n + c))
-    → fill (fill l at n f) (at + n) k g ≡ fill l at (n + k) h
+fill-join : (l : List ℕ) (at n k : ℕ) (f g : ℕ → ℕ) → ((c : ℕ) → c < k → g c ≡ f (n + c))
+    → fill (fill l at n f) (at + n) k g ≡ fill l at (n + k) f
 unfolding fill
-fill-join l at n zero f g h e q = rw add-zero (fill-same l at n f h e)
-fill-join l at n (suc k) f g h e q =
+fill-join l at n zero f g q = rw add-zero refl
+fill-join l at n (suc k) f g q =
     let place : at + n + k ≡ at + (n + k) = omega arith in
-    ap (λ (m : List ℕ). set m (at + n + k) (g k)) (fill-join l at n k f g h e (λ c lt. q c (omega arith)))
-    ∙ ap (λ (v : ℕ). set (fill l at (n + k) h) (at + n + k) v) (q k (omega arith))
-    ∙ ap (λ (j : ℕ). set (fill l at (n + k) h) j (h (n + k))) place
-    ∙ sym (ap (λ (j : ℕ). fill l at j h) (add-suc n k))
+    ap (λ (m : List ℕ). set m (at + n + k) (g k)) (fill-join l at n k f g (λ c lt. q c (omega arith)))
+    ∙ ap (λ (v : ℕ). set (fill l at (n + k) f) (at + n + k) v) (q k (omega arith))
+    ∙ ap (λ (j : ℕ). set (fill l at (n + k) f) j (f (n + k))) place
+    ∙ sym (ap (λ (j : ℕ). fill l at j f) (add-suc n k))
 
 -- four writes in a row
 pub four-written : (l : List ℕ) (at : ℕ) (f : ℕ → ℕ) → set (set (set (set l at (f 0)) (at + 1) (f 1)) (at + 2) (f 2)) (at + 3) (f 3) ≡ fill l at 4 f
@@ -40,7 +40,7 @@ eight-written l at f = rw add-zero refl
 pub run-turn : {l : List ℕ} {at m : ℕ} {f : ℕ → ℕ} {now next : List ℕ} (from n end : ℕ) (g : ℕ → ℕ) → Filling l at m f now
     → from ≡ at + m → end ≡ m + n → next ≡ fill now from n g → ((k : ℕ) → k < n → g k ≡ f (m + k)) → Filling l at end f next
 run-turn {l} {at} {m} {f} {now} {next} from n end g s p e written same = record {
-  is = written ∙ rw (p, e, s .is) (fill-join l at m n f g f (λ c h. refl) same);
+  is = written ∙ rw (p, e, s .is) (fill-join l at m n f g same);
   long = ap length written ∙ length-fill now from n g ∙ s .long;
 }
 

@@ -47,11 +47,6 @@ impl Prediction for BlockArgs {
         (&mut self.depth, &mut self.average)
     }
 
-    fn above_depth(&self) -> bool {
-        let used = &self.refs[..table::lists(self.average)];
-        used.iter().any(|r| any_above(&r.bands, self.depth))
-    }
-
     fn read_args(q: &mut Query, r: &mut Reader) -> Read<()> {
         let a = &mut q.args;
         for list in 0..2 {

@@ -43,11 +43,6 @@ impl Prediction for PredictArgs {
         (&mut self.depth, &mut self.average)
     }
 
-    fn above_depth(&self) -> bool {
-        let used = &self.refs[..table::lists(self.average)];
-        used.iter().any(|r| any_above(&r.bands, self.depth))
-    }
-
     fn read_args(q: &mut Query, r: &mut Reader) -> Read<()> {
         let a = &mut q.args;
         for c in a.vectors.iter_mut().flatten().flatten() {

@@ -6,6 +6,7 @@ use super::edges::*;
 use super::planes::*;
 use super::rng::Rng;
 use super::staged::{Numbered, Staged};
+use crate::table;
 use crate::terms::Bands;
 
 /// The longest output or destination; one more than a plane can be wide.
@@ -43,10 +44,6 @@ pub trait Prediction: Clone + std::fmt::Debug + 'static {
     fn resize(&mut self, list: usize, width: i32, height: i32);
 
     fn depth_and_average(&mut self) -> (&mut u32, &mut bool);
-
-    /// Whether a sample that the call may look at exceeds the depth; of lent bands, which have the
-    /// size of their plane.
-    fn above_depth(&self) -> bool;
 
     fn read_args(q: &mut Query<Self>, r: &mut Reader) -> Read<()>;
 
@@ -145,9 +142,9 @@ impl<A: Prediction> Staged for A {
     }
 
     fn write(scene: &Scene, q: &Query<A>, w: &mut Writer) {
-        let args = q.args(scene);
+        let mut args = q.args(scene);
         let number = (A::NUMBER)(&args, q.out, q.room);
-        let above = number == 0 && args.above_depth();
+        let above = number == 0 && above_depth(&mut args);
         let mut out = q.output();
         if number == 0 {
             predict(&args, above, &mut out);
@@ -186,8 +183,14 @@ fn predict<A: Prediction>(args: &A, above: bool, out: &mut [u16]) {
     }
 }
 
+/// Whether a sample that an accepted call may look at exceeds the depth.
+fn above_depth<A: Prediction>(args: &mut A) -> bool {
+    let (&mut depth, &mut average) = args.depth_and_average();
+    (0..table::lists(average)).any(|list| any_above(args.bands(list), depth))
+}
+
 /// Whether a sample of the plane exceeds the depth; what lies between its rows doesn't count.
-pub fn any_above(b: &Bands, depth: u32) -> bool {
+fn any_above(b: &Bands, depth: u32) -> bool {
     let (w, h) = (b.width as usize, b.height as usize);
     (0..h).any(|row| {
         let samples = match row.checked_sub(b.upper_rows) {
@@ -297,8 +300,8 @@ mod tests {
         let mut compared = 0;
         for (scene, queries) in &stages::<A>(100) {
             for q in queries {
-                let args = q.args(scene);
-                if A::number(scene, q) != 0 || args.above_depth() {
+                let mut args = q.args(scene);
+                if A::number(scene, q) != 0 || above_depth(&mut args) {
                     continue;
                 }
                 let mut both = [q.output(), q.output()];

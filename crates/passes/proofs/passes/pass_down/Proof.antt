@@ -25,9 +25,8 @@ pass-down-even-requires c κs =
     let i = t .before in
     let s = entry i in
     let a = s .args in
-    let e = t .taps-of .ensures in
     let held = held-even (a .max) (a .room .now) (a .start) (a .step) (a .h) (a .w) (even i) (s .pre .1 .1) in
-    (e .0, (omega (arith, e .1, e .2, s .pre .0), (s .pre .1 .0, held)))
+    (t .taps-of .ensures .0, (omega (arith, s .pre .0), (s .pre .1 .0, held)))
 
 same-length : tie.Need-same-length
 same-length c = search needs
