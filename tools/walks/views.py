@@ -749,7 +749,7 @@ def main():
     made("ref_plane.RefPlane.new", PLANE)
     apart("ref_plane.RefPlane.row", PLANE, 2, [self, y, number],
           Callee("read", "planes", "row_read", "planes·row-read"), ["self"], bands("self") + [("size", "self"), "y", "number"],
-          BAND, [read % "lent, ReadOutcome"], f"ReadOutcome (lent {lent('self')}) y (LAST number) (now r)")
+          BAND, [read % "ReadOutcome"], "ReadOutcome self-size (self .upper) (self .lower) y (LAST number) r")
     apart("ref_plane.RefPlane.predict", PLANE, 3, [self, P("shape", SHAPE), P("start", STEPPING), room, out, stride],
           predict, ["self"], ["shape"] + ([("size", "self"), "start"] + bands("self")) * 2 + ["room", "out", "stride"],
           U32, block_, f"Outcome (call shape (ref (lent {lent('self')}) start) (ref (lent {lent('self')}) start) stride) {left}")
@@ -762,7 +762,8 @@ def main():
           [P("upper", BAND), P("lower", BAND), P("width", I32), P("height", I32), stride, P("rows", USIZE), y, number],
           Callee("new", "views", "ref_plane.RefPlane.new", "views·ref-plane·RefPlane·new"),
           Callee("row", "views", "ref_plane.RefPlane.row", "views·ref-plane·RefPlane·row"), ["y", "number"],
-          BAND, [read % "ReadOutcome", "use Rattle.views.specs.Seen.{plane}"], "ReadOutcome (plane made) y (LAST number) (now r)")
+          BAND, [read % "ReadOutcome", "use Rattle.views.specs.Seen.{sizeOf}"],
+          "ReadOutcome (sizeOf made) (made .upper) (made .lower) y (LAST number) r")
     CRATE = "frames"
     made("ref_frame.RefFrame.new", FRAME)
     apart("ref_frame.predict_inter", FRAME, 3,

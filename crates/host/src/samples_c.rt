@@ -17,22 +17,24 @@ pub struct RowPlace {
     pub samples: usize,
 }
 
-fn placed(y: usize, k: usize, stride: usize, samples: usize) -> RowPlace
-    requires { ⌜ (y ≤ 2147483648) × (stride ≤ 131072) ⌝ }
-    ensures { λ r. ⌜ r ≡ InC.placed y k stride samples ⌝ }
+fn row_spot(geom: PlaneGeom, y: usize) -> RowPlace
+    requires { ⌜ (y ≤ 65536) × (geom .stride ≤ 131072) ⌝ }
+    ensures { λ r. ⌜ r ≡ InC.rowSpot geom y ⌝ }
 {
+    let k = geom.upper_rows;
+    let samples = base::natural(geom.width);
     if y < k {
         return RowPlace {
             answer: 0,
             band: 0,
-            first: y * stride,
+            first: y * geom.stride,
             samples,
         };
     }
     RowPlace {
         answer: 0,
         band: 1,
-        first: (y - k) * stride,
+        first: (y - k) * geom.stride,
         samples,
     }
 }
@@ -57,7 +59,7 @@ pub extern "C" fn knobspindle_row_read<'a>(
             samples: 0,
         };
     }
-    placed(y, geom.upper_rows, geom.stride, base::natural(geom.width))
+    row_spot(geom, y)
 }
 
 #[no_mangle]

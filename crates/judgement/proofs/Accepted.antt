@@ -29,8 +29,9 @@ use Rattle.blocks.specs.Block.{also, kind, starts}
 use Rattle.blocks.specs.declared.block.Stepping.{Stepping}
 use Rattle.judgement.specs.Whole.{Source, Whole, steppingOf, scaleGeom, planeOf, shapeOf, allowedRef, destFits, blockOk, numberOf}
 use Rattle.judgement.specs.declared.judging.Led.{Led}
-use Rattle.judgement.specs.Chain.{lead}
-use Rattle.judgement.proofs.Joined.{leadOne, leadTwo, also-yes}
+use Rattle.judgement.specs.declared.judging.Judged.{Judged}
+use Rattle.judgement.specs.Chain.{lead, leadOne, leadTwo, Judgement}
+use Rattle.judgement.proofs.Joined.{also-yes}
 
 -- what each row of the table says of an accepted call, with a destination of n samples and a room of m
 pub record Accepted (a : Whole) (n m : ℕ) : Type 0 where
@@ -200,12 +201,13 @@ look-two a n m ok e = record { vectors = yes (a .args .average) _ e (ok .vectors
     yes true u e h = h
     yes false u e h = clash e
 
--- where the code's chains lead in an accepted call
-pub one-leads : (a : Whole) (n m : ℕ) → numberOf a n m ≡ 0 → leadOne a .from ≡ steppingOf a false (a .one)
-one-leads a n m e = let ok = accepted a n m e in leads a n m ok false (a .one) (look-one a n m ok)
+-- where an accepted call is told to start: the definition's starts and steps
+pub told-one : (a : Whole) (n m : ℕ) (r : Judged) → Judgement a n m r → numberOf a n m ≡ 0 → r .from ≡ steppingOf a false (a .one)
+told-one a n m r j e = let ok = accepted a n m e in j .from ∙ leads a n m ok false (a .one) (look-one a n m ok)
 
-pub two-leads : (a : Whole) (n m : ℕ) → numberOf a n m ≡ 0 → a .args .average ≡ true → leadTwo a .from ≡ steppingOf a true (a .two)
-two-leads a n m e t =
+pub told-two : (a : Whole) (n m : ℕ) (r : Judged) → Judgement a n m r → numberOf a n m ≡ 0 → a .args .average ≡ true
+    → r .from2 ≡ steppingOf a true (a .two)
+told-two a n m r j e t =
     let ok = accepted a n m e in
     let yes = also-yes (a .args) (a .grid) (a .frame) (a .two .geom) (getD (a .mvs) 1 []) t in
-    ap (λ (l : Led). l .from) (sym yes) ∙ leads a n m ok true (a .two) (look-two a n m ok t)
+    j .from2 ∙ ap (λ (l : Led). l .from) (sym yes) ∙ leads a n m ok true (a .two) (look-two a n m ok t)

@@ -27,7 +27,7 @@ use Rattle.vectors.specs.declared.inter_mv.ClampedMv.{ClampedMv}
 use Rattle.vectors.specs.declared.inter_mv.ScaledMv.{ScaledMv}
 use Rattle.judgement.specs.Whole.{Whole, extent, planeGeom, planeOf, scaleGeom, allowedRef, destFits, blockOk, numberOf}
 use Rattle.judgement.specs.Chain as Chain
-use Rattle.judgement.specs.Chain.{lead, leadAlso, lends, not, refusal}
+use Rattle.judgement.specs.Chain.{lead, leadAlso, leadOne, leadTwo, lends, otherThan, refusal}
 use Rattle.judgement.specs.declared.judging.InterPredArgs.{InterPredArgs}
 use Rattle.judgement.specs.declared.judging.FrameGeom.{FrameGeom}
 use Rattle.judgement.specs.declared.judging.RefGeom.{RefGeom}
@@ -62,40 +62,40 @@ module _ (b : InterPredArgs) (g : BlockGrid) (f : FrameGeom) (s : RefGeom) (l : 
 -- ---- the number
 
 -- which of a call's answers a number is, where the rows before it passed
-not-first : (r v : Bool) → not 1 (unless 1 r (unless 9 v 0)) ≡ r
-unfolding not unless
-not-first true true = refl
-not-first true false = refl
-not-first false v = refl
+other-first : (r v : Bool) → otherThan 1 (unless 1 r (unless 9 v 0)) ≡ r
+unfolding otherThan unless
+other-first true true = refl
+other-first true false = refl
+other-first false v = refl
 
-not-ninth : (r v : Bool) → r ≡ true → not 9 (unless 1 r (unless 9 v 0)) ≡ v
-unfolding not unless
-not-ninth true true e = refl
-not-ninth true false e = refl
-not-ninth false v e = clash e
+other-ninth : (r v : Bool) → r ≡ true → otherThan 9 (unless 1 r (unless 9 v 0)) ≡ v
+unfolding otherThan unless
+other-ninth true true e = refl
+other-ninth true false e = refl
+other-ninth false v e = clash e
 
-not-second : (r g v : Bool) → r ≡ true → not 2 (unless 1 r (unless 2 g (unless 9 v 0))) ≡ g
-unfolding not unless
-not-second true true true e = refl
-not-second true true false e = refl
-not-second true false v e = refl
-not-second false g v e = clash e
+other-second : (r g v : Bool) → r ≡ true → otherThan 2 (unless 1 r (unless 2 g (unless 9 v 0))) ≡ g
+unfolding otherThan unless
+other-second true true true e = refl
+other-second true true false e = refl
+other-second true false v e = refl
+other-second false g v e = clash e
 
-not-fifth : (r u p v : Bool) → r ≡ true → not 5 (unless 1 r (unless 5 u (unless 6 p (unless 9 v 0)))) ≡ u
-unfolding not unless
-not-fifth true true true true e = refl
-not-fifth true true true false e = refl
-not-fifth true true false v e = refl
-not-fifth true false p v e = refl
-not-fifth false u p v e = clash e
+other-fifth : (r u p v : Bool) → r ≡ true → otherThan 5 (unless 1 r (unless 5 u (unless 6 p (unless 9 v 0)))) ≡ u
+unfolding otherThan unless
+other-fifth true true true true e = refl
+other-fifth true true true false e = refl
+other-fifth true true false v e = refl
+other-fifth true false p v e = refl
+other-fifth false u p v e = clash e
 
-not-sixth : (r u p v : Bool) → r ≡ true → u ≡ true → not 6 (unless 1 r (unless 5 u (unless 6 p (unless 9 v 0)))) ≡ p
-unfolding not unless
-not-sixth true true true true e f = refl
-not-sixth true true true false e f = refl
-not-sixth true true false v e f = refl
-not-sixth true false p v e f = clash f
-not-sixth false u p v e f = clash e
+other-sixth : (r u p v : Bool) → r ≡ true → u ≡ true → otherThan 6 (unless 1 r (unless 5 u (unless 6 p (unless 9 v 0)))) ≡ p
+unfolding otherThan unless
+other-sixth true true true true e f = refl
+other-sixth true true true false e f = refl
+other-sixth true true false v e f = refl
+other-sixth true false p v e f = clash f
+other-sixth false u p v e f = clash e
 
 -- two tables whose tests agree where the rows before them passed
 same-number : (t1 t2 t4 t5 t6 t7 t9 s1 s2 s5 s6 s7 s9 : Bool) → t1 ≡ s1 → (s1 ≡ true → t2 ≡ s2) → (s1 ≡ true → t5 ≡ s5)
@@ -154,13 +154,13 @@ also-same : (t u x y : Bool) → also t u ≡ true → (u ≡ true → x ≡ y) 
 also-same true u x y e h = h e
 also-same false u x y e h = refl
 
-scale-also : (t : Bool) (x y : Led) → y .scale ≡ 0 → not 5 ((cond t x y) .scale) ≡ also t (not 5 (x .scale))
-unfolding not
+scale-also : (t : Bool) (x y : Led) → y .scale ≡ 0 → otherThan 5 ((cond t x y) .scale) ≡ also t (otherThan 5 (x .scale))
+unfolding otherThan
 scale-also true x y e = refl
 scale-also false x y e = rw e
 
-select-also : (t : Bool) (x y : Led) → y .select ≡ 0 → not 9 ((cond t x y) .select) ≡ also t (not 9 (x .select))
-unfolding not
+select-also : (t : Bool) (x y : Led) → y .select ≡ 0 → otherThan 9 ((cond t x y) .select) ≡ also t (otherThan 9 (x .select))
+unfolding otherThan
 select-also true x y e = refl
 select-also false x y e = rw e
 
@@ -180,12 +180,6 @@ module _ (a : Whole) where
 
   abbrev f : FrameGeom
   f = a .frame
-
-  abbrev pub leadOne : Led
-  leadOne = lead b g f (a .one .geom) (getD (a .mvs) 0 [])
-
-  abbrev pub leadTwo : Led
-  leadTwo = leadAlso b g f (a .two .geom) (getD (a .mvs) 1 [])
 
   -- what the code asks of the bands, the destination and the room
   abbrev pub lendings : ℕ → ℕ → Bool
@@ -208,38 +202,38 @@ module _ (a : Whole) where
       rw (one, two)
 
   -- the answers of each list's calls, told by their rows
-  size-at : (s : RefGeom) (l : List (List Eighth)) → blockOk b g f ≡ true → not 5 (lead b g f s l .scale) ≡ allowedRef f s
+  size-at : (s : RefGeom) (l : List (List Eighth)) → blockOk b g f ≡ true → otherThan 5 (lead b g f s l .scale) ≡ allowedRef f s
   unfolding lead scaleMv allowedRef
-  size-at s l e = not-fifth _ _ _ _ (first-is e .1)
+  size-at s l e = other-fifth _ _ _ _ (first-is e .1)
 
   start-at : (s : RefGeom) (l : List (List Eighth)) → blockOk b g f ≡ true → allowedRef f s ≡ true
-      → not 6 (lead b g f s l .scale) ≡ placed (b .x) && placed (b .y)
+      → otherThan 6 (lead b g f s l .scale) ≡ placed (b .x) && placed (b .y)
   unfolding lead scaleMv allowedRef
-  start-at s l e u = not-sixth _ _ _ _ (first-is e .1) u
+  start-at s l e u = other-sixth _ _ _ _ (first-is e .1) u
 
   grid-at : (s : RefGeom) (l : List (List Eighth)) → blockOk b g f ≡ true
-      → not 2 (lead b g f s l .clamp) ≡ onAxis (g .«mi_rows») (g .«mi_row») && onAxis (g .«mi_cols») (g .«mi_col»)
+      → otherThan 2 (lead b g f s l .clamp) ≡ onAxis (g .«mi_rows») (g .«mi_row») && onAxis (g .«mi_cols») (g .«mi_col»)
   unfolding lead clampMv
-  grid-at s l e = not-second _ _ _ (first-is e .0)
+  grid-at s l e = other-second _ _ _ (first-is e .0)
 
-  block-at : (s : RefGeom) (l : List (List Eighth)) → not 1 (lead b g f s l .select) ≡ blockOk b g f
+  block-at : (s : RefGeom) (l : List (List Eighth)) → otherThan 1 (lead b g f s l .select) ≡ blockOk b g f
   unfolding lead selectMv blockOk
-  block-at s l = not-first _ _
+  block-at s l = other-first _ _
 
-  vector-at : (s : RefGeom) (list : ℕ) → blockOk b g f ≡ true → not 9 (lead b g f s (getD (a .mvs) list []) .select) ≡ legalList (a .mvs) list
+  vector-at : (s : RefGeom) (list : ℕ) → blockOk b g f ≡ true → otherThan 9 (lead b g f s (getD (a .mvs) list []) .select) ≡ legalList (a .mvs) list
   unfolding lead selectMv blockOk legalBlock legalList
-  vector-at s list e = not-ninth _ _ e ∙ both-same _
+  vector-at s list e = other-ninth _ _ e ∙ both-same _
 
-  size-two : blockOk b g f ≡ true → not 5 (leadTwo .scale) ≡ also (b .average) (allowedRef f (a .two .geom))
+  size-two : blockOk b g f ≡ true → otherThan 5 (leadTwo a .scale) ≡ also (b .average) (allowedRef f (a .two .geom))
   unfolding leadAlso
   size-two e =
       scale-also (b .average) _ _ refl ∙ ap (also (b .average)) (size-at (a .two .geom) (getD (a .mvs) 1 []) e)
 
-  vector-two : blockOk b g f ≡ true → not 9 (leadTwo .select) ≡ also (b .average) (legalList (a .mvs) 1)
+  vector-two : blockOk b g f ≡ true → otherThan 9 (leadTwo a .select) ≡ also (b .average) (legalList (a .mvs) 1)
   unfolding leadAlso
   vector-two e = select-also (b .average) _ _ refl ∙ ap (also (b .average)) (vector-at (a .two .geom) 1 e)
 
-  pub joined : (n m : ℕ) → refusal b leadOne leadTwo (lendings n m) ≡ numberOf a n m
+  pub joined : (n m : ℕ) → refusal b (leadOne a) (leadTwo a) (lendings n m) ≡ numberOf a n m
   unfolding refusal numberOf Chain.kind Block.kind
   joined n m =
       let W = within 1 64 (b .w) in

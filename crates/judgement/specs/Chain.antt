@@ -6,6 +6,7 @@ use mathlib.Core.Bool.{Bool, true, false, _&&_, _||_, cond}
 use mathlib.Core.List.{List, [], _∷_}
 use lib.Dec.{leb, eqb}
 use lib.IntN.{pos}
+use lib.ListN.{getD}
 use Rattle.base.specs.Answer.{unless, answer, BLOCK, GRID, FILTER, SIZE, START, SHORT, VECTOR}
 use Rattle.base.specs.Number.{within}
 use Rattle.base.specs.Vector.{sixteenth}
@@ -15,7 +16,7 @@ use Rattle.vectors.specs.Clamp.{clampMv}
 use Rattle.vectors.specs.Scale.{scaleMv}
 use Rattle.vectors.specs.declared.inter_mv.BlockGrid.{BlockGrid}
 use Rattle.planes.specs.Plane.{Lent, readRows}
-use Rattle.judgement.specs.Whole.{Whole, scaleGeom, steppingOf, numberOf}
+use Rattle.judgement.specs.Whole.{Whole, scaleGeom, numberOf}
 use Rattle.judgement.specs.declared.judging.InterPredArgs.{InterPredArgs}
 use Rattle.judgement.specs.declared.judging.FrameGeom.{FrameGeom}
 use Rattle.judgement.specs.declared.judging.RefGeom.{RefGeom}
@@ -62,21 +63,29 @@ unfoldable pub kind : ℕ → ℕ → Bool
 kind filter depth = leb filter 3 && (eqb depth 8 || eqb depth 10 || eqb depth 12)
 
 -- a call answered something other than the number
-unfoldable pub not : ℕ → ℕ → Bool
-not number given = cond (eqb given number) false true
+unfoldable pub otherThan : ℕ → ℕ → Bool
+otherThan number given = cond (eqb given number) false true
 
 unfoldable pub refusal : InterPredArgs → Led → Led → Bool → ℕ
 refusal b one two lent =
-    unless BLOCK (not BLOCK (one .select) && within 1 64 (b .w) && within 1 64 (b .h))
-    (unless GRID (not GRID (one .clamp))
+    unless BLOCK (otherThan BLOCK (one .select) && within 1 64 (b .w) && within 1 64 (b .h))
+    (unless GRID (otherThan GRID (one .clamp))
     (unless FILTER (kind (b .filter) (b .depth))
-    (unless SIZE (not SIZE (one .scale) && not SIZE (two .scale))
-    (unless START (not START (one .scale))
+    (unless SIZE (otherThan SIZE (one .scale) && otherThan SIZE (two .scale))
+    (unless START (otherThan START (one .scale))
     (unless SHORT lent
-    (unless VECTOR (not VECTOR (one .select) && not VECTOR (two .select)) 0))))))
+    (unless VECTOR (otherThan VECTOR (one .select) && otherThan VECTOR (two .select)) 0))))))
 
--- what a call is told: its number and, where that is 0, the definition's starts and steps
+-- a call's two lists
+abbrev pub leadOne : Whole → Led
+leadOne a = lead (a .args) (a .grid) (a .frame) (a .one .geom) (getD (a .mvs) 0 [])
+
+abbrev pub leadTwo : Whole → Led
+leadTwo a = leadAlso (a .args) (a .grid) (a .frame) (a .two .geom) (getD (a .mvs) 1 [])
+
+-- what a call is told, accepted or refused: its number, and where each list leads. In an accepted call that is the definition's `steppingOf`
+-- (`told-one`, `told-two` in proofs/Accepted.antt)
 pub record Judgement (a : Whole) (n m : ℕ) (r : Judged) : Type 0 where
   pub number : r .number ≡ numberOf a n m
-  pub one : numberOf a n m ≡ 0 → r .from ≡ steppingOf a false (a .one)
-  pub two : numberOf a n m ≡ 0 → a .args .average ≡ true → r .from2 ≡ steppingOf a true (a .two)
+  pub from : r .from ≡ leadOne a .from
+  pub from2 : r .from2 ≡ leadTwo a .from

@@ -222,8 +222,8 @@ fn kind(filter: usize, depth: u32) -> bool
 }
 
 // Whether a call below answered something else.
-fn not(number: u32, answer: u32) -> bool
-    ensures { λ r. ⌜ r ≡ Chain.not number answer ⌝ }
+fn other_than(number: u32, answer: u32) -> bool
+    ensures { λ r. ⌜ r ≡ Chain.otherThan number answer ⌝ }
 {
     if answer == number { false } else { true }
 }
@@ -232,12 +232,12 @@ fn not(number: u32, answer: u32) -> bool
 fn refusal(args: InterPredArgs, one: Led, two: Led, lent: bool) -> u32
     ensures { λ r. ⌜ r ≡ Chain.refusal args one two lent ⌝ }
 {
-    let block = not(BLOCK, one.select) & within(1, 64, args.w) & within(1, 64, args.h);
-    let size = not(SIZE, one.scale) & not(SIZE, two.scale);
-    let vector = not(VECTOR, one.select) & not(VECTOR, two.select);
+    let block = other_than(BLOCK, one.select) & within(1, 64, args.w) & within(1, 64, args.h);
+    let size = other_than(SIZE, one.scale) & other_than(SIZE, two.scale);
+    let vector = other_than(VECTOR, one.select) & other_than(VECTOR, two.select);
     let rest = unless(
         START,
-        not(START, one.scale),
+        other_than(START, one.scale),
         unless(SHORT, lent, unless(VECTOR, vector, 0)),
     );
     unless(
@@ -245,7 +245,7 @@ fn refusal(args: InterPredArgs, one: Led, two: Led, lent: bool) -> u32
         block,
         unless(
             GRID,
-            not(GRID, one.clamp),
+            other_than(GRID, one.clamp),
             unless(
                 FILTER,
                 kind(args.filter, args.depth),

@@ -4,8 +4,9 @@ use mathlib.Core.Path.{_≡_}
 use mathlib.Core.Bool.{Bool, true, _&&_, cond}
 use mathlib.Core.List.{List, [], _∷_}
 use lib.Dec.{leb, ltb, eqb}
-use lib.IntN.{pos}
+use lib.IntN.{ℤ, pos}
 use lib.ListN.{length, getD, take, drop}
+use denote.Ref.{RefT, ptr, now}
 use Rattle.base.specs.Answer.{Row, row, answer, SIZE, START, SHORT}
 use Rattle.base.specs.Number.{between, within}
 use Rattle.base.specs.Position.{toN}
@@ -20,9 +21,12 @@ pub record Lent : Type 0 where
 abbrev pub lent : PlaneGeom → List ℕ → List ℕ → Lent
 lent g upper lower = record { geom = g; upper = upper; lower = lower }
 
--- a plane lent in plain numbers
+-- a plane's numbers, and a plane lent in plain ones
+abbrev pub geom : ℤ → ℤ → ℕ → ℕ → PlaneGeom
+geom width height stride k = record { width = width; height = height; stride = stride; «upper_rows» = k }
+
 abbrev pub view : ℕ → ℕ → ℕ → ℕ → List ℕ → List ℕ → Lent
-view w h stride k upper lower = lent (record { width = pos w; height = pos h; stride = stride; «upper_rows» = k }) upper lower
+view w h stride k upper lower = lent (geom (pos w) (pos h) stride k) upper lower
 
 abbrev pub widthOf : PlaneGeom → ℕ
 widthOf g = toN (g .width)
@@ -60,14 +64,28 @@ readRows p y =
     ∷ row SHORT (fits p)
     ∷ []
 
--- "comes back as a part of whichever of the two bands holds it, not a copy"
-unfoldable pub rowOf : Lent → ℕ → List ℕ
-rowOf p y =
-    cond (ltb y (p .geom .«upper_rows»))
-    (take (widthOf (p .geom)) (drop (y * p .geom .stride) (p .upper)))
-    (take (widthOf (p .geom)) (drop ((y - p .geom .«upper_rows») * p .geom .stride) (p .lower)))
+-- which band holds row y, and from which of that band's samples on the row stands there
+abbrev pub above : PlaneGeom → ℕ → Bool
+above g y = ltb y (g .«upper_rows»)
 
--- what a row read gives: the number, and the row or, where it is refused, "an empty part of the upper band"
-pub record ReadOutcome (p : Lent) (y n : ℕ) (r : List ℕ) : Type 0 where
-  pub number : n ≡ answer (readRows p y)
-  pub row : r ≡ cond (eqb (answer (readRows p y)) 0) (rowOf p y) []
+abbrev pub firstOf : PlaneGeom → ℕ → ℕ
+firstOf g y = cond (above g y) (y * g .stride) ((y - g .«upper_rows») * g .stride)
+
+-- the samples of row y
+unfoldable pub rowOf : Lent → ℕ → List ℕ
+rowOf p y = take (widthOf (p .geom)) (drop (firstOf (p .geom) y) (cond (above (p .geom) y) (p .upper) (p .lower)))
+
+-- where sample i of a lent slice stands in memory, two bytes a sample: the piece of memory and the byte in it
+abbrev pub sampleAt : RefT (List ℕ) → ℕ → ℕ × ℕ
+sampleAt band i = (band .ptr .0, i * 2 + band .ptr .1)
+
+-- where the first sample of row y stands
+unfoldable pub rowAt : PlaneGeom → RefT (List ℕ) → RefT (List ℕ) → ℕ → ℕ × ℕ
+rowAt g upper lower y = sampleAt (cond (above g y) upper lower) (firstOf g y)
+
+-- what a row read gives: the number; the row, which "comes back as a part of whichever of the two bands holds it, not a copy"; and where it is
+-- refused "an empty part of the upper band". A part is told by where it stands and by its samples
+pub record ReadOutcome (g : PlaneGeom) (upper lower : RefT (List ℕ)) (y n : ℕ) (r : RefT (List ℕ)) : Type 0 where
+  pub number : n ≡ answer (readRows (lent g (now upper) (now lower)) y)
+  pub row : now r ≡ cond (eqb (answer (readRows (lent g (now upper) (now lower)) y)) 0) (rowOf (lent g (now upper) (now lower)) y) []
+  pub place : ptr r ≡ cond (eqb (answer (readRows (lent g (now upper) (now lower)) y)) 0) (rowAt g upper lower y) (sampleAt upper 0)

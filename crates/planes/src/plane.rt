@@ -3,12 +3,12 @@ ghost use mathlib.Core.Path.{_≡_};
 ghost use mathlib.Core.Bool.{true, _&&_};
 ghost use Prim.Native.Nat.{_-_, _*_, _≤_, _<_};
 ghost use lib.Dec.{leb};
+ghost use lib.IntN.{pos};
 ghost use lib.ListN.{length, take, drop};
 ghost use Rattle.base.specs.Answer.{answer};
 ghost use Rattle.base.specs.Number as Number;
 ghost use Rattle.planes.specs.Plane as Plane;
-ghost use Rattle.planes.specs.Plane.{lent, readRows, rowOf, ReadOutcome};
-ghost use Rattle.planes.specs.Plane.{view};
+ghost use Rattle.planes.specs.Plane.{geom as sizes, lent, view, readRows, rowOf, rowAt, sampleAt, ReadOutcome};
 use base::SHORT;
 use base::SIZE;
 use base::START;
@@ -72,7 +72,7 @@ pub fn fits<'a>(upper: &'a [u16], lower: &'a [u16], geom: PlaneGeom) -> bool
 fn band_row<'a>(band: &'a [u16], rows: usize, stride: usize, w: usize, y: usize) -> &'a [u16]
     requires { ⌜ Plane.holds rows stride w (length (now band)) ≡ true ⌝ }
     requires { ⌜ y < rows ⌝ }
-    ensures { λ r. ⌜ (now r ≡ take w (drop (y * stride) (now (band .entry)))) × (length (now r) ≡ w) ⌝ }
+    ensures { λ r. ⌜ (now r ≡ take w (drop (y * stride) (now (band .entry)))) × (length (now r) ≡ w) × (r .ptr ≡ sampleAt (band .entry) (y * stride)) ⌝ }
 {
     let a = y * stride;
     let e = a + w;
@@ -91,7 +91,8 @@ pub fn plane_row<'a>(
 ) -> &'a [u16]
     requires { ⌜ Plane.fits (view w h stride k (now upper) (now lower)) ≡ true ⌝ }
     requires { ⌜ y < h ⌝ }
-    ensures { λ r. ⌜ (now r ≡ rowOf (view w h stride k (now (upper .entry)) (now (lower .entry))) y) × (length (now r) ≡ w) ⌝ }
+    ensures { λ r. ⌜ (now r ≡ rowOf (view w h stride k (now (upper .entry)) (now (lower .entry))) y) × (length (now r) ≡ w)
+        × (r .ptr ≡ rowAt (sizes (pos w) (pos h) stride k) (upper .entry) (lower .entry) y) ⌝ }
 {
     if y < k {
         return band_row(upper, k, stride, w, y);
@@ -121,7 +122,7 @@ pub fn row_read<'a>(
     y: usize,
     number: &mut u32,
 ) -> &'a [u16]
-    ensures { λ r. ⌜ ReadOutcome (lent geom (now (upper .entry)) (now (lower .entry))) y (now (number .exit)) (now r) ⌝ }
+    ensures { λ r. ⌜ ReadOutcome geom (upper .entry) (lower .entry) y (now (number .exit)) r ⌝ }
 {
     let n = read_refusal(upper, lower, geom, y);
     *number = n;

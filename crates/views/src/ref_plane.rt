@@ -1,9 +1,9 @@
 // A plane of a reference as block prediction sees it: the two bands beside the plane's own size.
 ghost use mathlib.Core.Path.{_≡_};
 ghost use Rattle.base.specs.Answer.{answer};
-ghost use Rattle.planes.specs.Plane.{lent, readRows, ReadOutcome};
+ghost use Rattle.planes.specs.Plane.{geom, lent, readRows, ReadOutcome};
 ghost use Rattle.samples.specs.Call.{call, ref, Outcome};
-ghost use Rattle.views.specs.Seen.{geom, plane};
+ghost use Rattle.views.specs.Seen.{sizeOf, plane};
 use samples::BlockShape;
 use samples::PlaneGeom;
 use samples::Stepping;
@@ -50,7 +50,7 @@ impl<'a> RefPlane<'a> {
 
     // A row, a part of the band that holds it; the answer's number goes into number.
     pub fn row(self, y: usize, number: &mut u32) -> &'a [u16]
-        ensures { λ r. ⌜ ReadOutcome (plane (self .entry)) y (now (number .exit)) (now r) ⌝ }
+        ensures { λ r. ⌜ ReadOutcome (sizeOf (self .entry)) (self .entry .upper) (self .entry .lower) y (now (number .exit)) r ⌝ }
     {
         let size = PlaneGeom {
             width: self.width,
@@ -149,7 +149,7 @@ pub fn read_row<'a>(
     y: usize,
     number: &mut u32,
 ) -> &'a [u16]
-    ensures { λ r. ⌜ ReadOutcome (lent (geom width height stride «upper_rows») (now (upper .entry)) (now (lower .entry))) y (now (number .exit)) (now r) ⌝ }
+    ensures { λ r. ⌜ ReadOutcome (geom width height stride «upper_rows») (upper .entry) (lower .entry) y (now (number .exit)) r ⌝ }
 {
     RefPlane::new(upper, lower, width, height, stride, upper_rows).row(y, number)
 }

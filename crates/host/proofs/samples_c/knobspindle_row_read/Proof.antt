@@ -6,7 +6,6 @@ use borrow.Author.Tests.{ne-eqb}
 use Rattle.base.specs.Answer.{answer}
 use Rattle.planes.specs.Plane.{Lent, lent, readRows}
 use Rattle.planes.proofs.Bands.{read-accepted, fits-says}
-use Rattle.base.proofs.Casts.{read-back, small-nat}
 use Rattle.host.specs.InC.{rowPlace}
 use Rattle.host.proofs.samples_c.knobspindle_row_read.Statement.{statement}
 use Rattle.host.proofs.samples_c.knobspindle_row_read.Tie as tie
@@ -28,26 +27,16 @@ returns : tie.Need-returns
 unfolding rowPlace
 returns c = rw (sym (c .before .row-read .ensures .number), ne-eqb _ _ (c .if1 .taken))
 
-natural-requires : tie.Need-natural-requires
-natural-requires c κs = search needs
-
-placed-requires : tie.Need-placed-requires
-placed-requires c κs =
-    let t = c .before in
-    let k = t .before .before in
-    let ok = read-accepted (plane k) (start k .args .y) (zero (t .before)) in
-    let high = small-nat (start k .args .geom .height) (t .struct-told .given .1 .0 .1) in
-    (omega (arith, ok .0, high), fits-says (plane k) (ok .1) .near)
+row-spot-requires : tie.Need-row-spot-requires
+row-spot-requires c κs =
+    let k = c .before in
+    let ok = read-accepted (plane k) (start k .args .y) (zero c) in
+    (omega (arith, ok), fits-says (plane k) (ok .1) .near)
 
 returns-2 : tie.Need-returns-2
 unfolding rowPlace
-returns-2 c =
-    let n = c .before in
-    let t = n .before in
-    let g = start (t .before .before) .args .geom in
-    let wide = n .natural .ensures in
-    rw (zero (t .before)) (rw (wide, read-back (g .width) (t .struct-told .given .0 .1)) at (c .placed .ensures))
+returns-2 c = rw (zero (c .before)) (c .row-spot .ensures)
 
 pub knobspindle-row-read-spec : {M : Type 1} → statement M
 knobspindle-row-read-spec =
-    tie.close (tie.spec row-read-requires returns natural-requires placed-requires returns-2)
+    tie.close (tie.spec row-read-requires returns row-spot-requires returns-2)

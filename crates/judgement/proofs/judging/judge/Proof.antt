@@ -1,4 +1,4 @@
--- `judge` meets its contract: the calls' answers make the table's number, and what they lead to is the definition's. Assumes nothing.
+-- `judge` meets its contract: the calls' answers make the table's number, and the starts are where they lead. Assumes nothing.
 use mathlib.Core.Path.{_≡_, ap, _∙_}
 use mathlib.Core.Bool.{Bool, _&&_}
 use borrow.Author.Needs.{needs}
@@ -8,7 +8,6 @@ use Rattle.judgement.specs.Chain.{refusal}
 use Rattle.judgement.specs.declared.judging.InterPredArgs.{InterPredArgs}
 use Rattle.judgement.specs.declared.judging.Led.{Led}
 use Rattle.judgement.proofs.Joined.{lendings, joined}
-use Rattle.judgement.proofs.Accepted.{one-leads, two-leads}
 use Rattle.judgement.proofs.judging.judge.Statement.{statement}
 use Rattle.judgement.proofs.judging.judge.Tie as tie
 
@@ -74,8 +73,8 @@ returns c =
     let number = r .refusal .ensures ∙ same-refusal (s .args .args) e f lent ∙ joined a (s .args .n) (s .args .m) in
     record {
       number = number;
-      one = λ z. ap (λ (x : Led). x .from) e ∙ one-leads a _ _ z;
-      two = λ z t. ap (λ (x : Led). x .from) f ∙ two-leads a _ _ z t;
+      from = ap (λ (x : Led). x .from) e;
+      from2 = ap (λ (x : Led). x .from) f;
     }
 
 pub judge-spec : {M : Type 1} → statement M

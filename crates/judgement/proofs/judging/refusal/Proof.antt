@@ -1,13 +1,13 @@
 -- `refusal` meets its contract: a row of the table for each test. Assumes nothing.
 use Rattle.base.specs.Answer.{unless}
 use Rattle.base.specs.Number.{within}
-use Rattle.judgement.specs.Chain.{kind, not, refusal}
+use Rattle.judgement.specs.Chain.{kind, otherThan, refusal}
 use borrow.Author.Needs.{needs}
 use Rattle.judgement.proofs.judging.refusal.Statement.{statement}
 use Rattle.judgement.proofs.judging.refusal.Tie as tie
 
-not-requires : tie.Need-not-requires
-not-requires c κs = search needs
+other-than-requires : tie.Need-other-than-requires
+other-than-requires c κs = search needs
 
 within-requires : tie.Need-within-requires
 within-requires c κs = search needs
@@ -15,20 +15,20 @@ within-requires c κs = search needs
 within-requires-2 : tie.Need-within-requires-2
 within-requires-2 c κs = search needs
 
-not-requires-2 : tie.Need-not-requires-2
-not-requires-2 c κs = search needs
+other-than-requires-2 : tie.Need-other-than-requires-2
+other-than-requires-2 c κs = search needs
 
-not-requires-3 : tie.Need-not-requires-3
-not-requires-3 c κs = search needs
+other-than-requires-3 : tie.Need-other-than-requires-3
+other-than-requires-3 c κs = search needs
 
-not-requires-4 : tie.Need-not-requires-4
-not-requires-4 c κs = search needs
+other-than-requires-4 : tie.Need-other-than-requires-4
+other-than-requires-4 c κs = search needs
 
-not-requires-5 : tie.Need-not-requires-5
-not-requires-5 c κs = search needs
+other-than-requires-5 : tie.Need-other-than-requires-5
+other-than-requires-5 c κs = search needs
 
-not-requires-6 : tie.Need-not-requires-6
-not-requires-6 c κs = search needs
+other-than-requires-6 : tie.Need-other-than-requires-6
+other-than-requires-6 c κs = search needs
 
 unless-requires : tie.Need-unless-requires
 unless-requires c κs = search needs
@@ -39,8 +39,8 @@ unless-requires-2 c κs = search needs
 unless-requires-3 : tie.Need-unless-requires-3
 unless-requires-3 c κs = search needs
 
-not-requires-7 : tie.Need-not-requires-7
-not-requires-7 c κs = search needs
+other-than-requires-7 : tie.Need-other-than-requires-7
+other-than-requires-7 c κs = search needs
 
 kind-requires : tie.Need-kind-requires
 kind-requires c κs = search needs
@@ -79,36 +79,36 @@ returns c =
       c .before .before .unless5 .ensures,
       u4 .unless4 .ensures,
       k .kind .ensures,
-      n7 .not7 .ensures,
+      n7 .other-than7 .ensures,
       u3 .unless3 .ensures,
       u2 .unless2 .ensures,
       u1 .unless .ensures,
-      n6 .not6 .ensures,
-      n5 .not5 .ensures,
-      n4 .not4 .ensures,
-      n3 .not3 .ensures,
-      n2 .not2 .ensures,
+      n6 .other-than6 .ensures,
+      n5 .other-than5 .ensures,
+      n4 .other-than4 .ensures,
+      n3 .other-than3 .ensures,
+      n2 .other-than2 .ensures,
       w2 .within2 .ensures,
       w1 .within .ensures,
-      w1 .before .not .ensures,
+      w1 .before .other-than .ensures,
     )
 
 pub refusal-spec : {M : Type 1} → statement M
 refusal-spec =
     tie.close
     (tie.spec
-    not-requires
+    other-than-requires
     within-requires
     within-requires-2
-    not-requires-2
-    not-requires-3
-    not-requires-4
-    not-requires-5
-    not-requires-6
+    other-than-requires-2
+    other-than-requires-3
+    other-than-requires-4
+    other-than-requires-5
+    other-than-requires-6
     unless-requires
     unless-requires-2
     unless-requires-3
-    not-requires-7
+    other-than-requires-7
     kind-requires
     unless-requires-4
     unless-requires-5

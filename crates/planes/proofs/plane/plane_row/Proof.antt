@@ -2,8 +2,7 @@
 use native.Mathlib.Omega.{arith}
 use borrow.Author.Tests.{lt-ltb, le-ltb}
 use borrow.Author.Needs.{needs}
-use Rattle.planes.specs.Plane.{rowOf}
-use Rattle.planes.specs.Plane.{view}
+use Rattle.planes.specs.Plane.{view, rowOf, rowAt}
 use Rattle.planes.proofs.Bands.{fits-says}
 use Rattle.planes.proofs.plane.plane_row.Statement.{statement}
 use Rattle.planes.proofs.plane.plane_row.Tie as tie
@@ -16,8 +15,11 @@ band-row-requires c κs =
     (f .upper, omega arith)
 
 returns : tie.Need-returns
-unfolding rowOf
-returns c = (simp (lt-ltb _ _ (c .before .if1 .taken)) (c .band-row .ensures .0), c .band-row .ensures .1)
+unfolding rowOf rowAt
+returns c =
+    let e = c .band-row .ensures in
+    let t = lt-ltb _ _ (c .before .if1 .taken) in
+    (simp t (e .0), e .1, simp t (e .2))
 
 sub-band-row : tie.Need-sub-band-row
 sub-band-row c = search needs
@@ -30,8 +32,11 @@ band-row-requires-2 c κs =
     (f .lower, omega (arith, s .pre .1))
 
 returns-2 : tie.Need-returns-2
-unfolding rowOf
-returns-2 c = (simp (le-ltb _ _ (c .before .if1 .left)) (c .band-row2 .ensures .0), c .band-row2 .ensures .1)
+unfolding rowOf rowAt
+returns-2 c =
+    let e = c .band-row2 .ensures in
+    let t = le-ltb _ _ (c .before .if1 .left) in
+    (simp t (e .0), e .1, simp t (e .2))
 
 pub plane-row-spec : {M : Type 1} → statement M
 plane-row-spec =

@@ -4,7 +4,7 @@ use native.Mathlib.Omega.{arith}
 use borrow.Author.Tests.{ne-eqb}
 use borrow.Author.Needs.{needs}
 use Rattle.base.specs.Answer.{row}
-use Rattle.planes.specs.Plane.{lent, fits, rowOf}
+use Rattle.planes.specs.Plane.{lent, fits, rowOf, rowAt}
 use Rattle.planes.proofs.Bands.{read-accepted}
 use Rattle.base.proofs.Casts.{read-back}
 use Rattle.planes.proofs.plane.row_read.Statement.{statement}
@@ -36,7 +36,7 @@ plane-row-requires c κs =
     (ok .1, ok .0)
 
 returns : tie.Need-returns
-unfolding rowOf
+unfolding rowOf rowAt
 returns c =
     let n = c .before in
     let k = n .before .before .before in
@@ -50,6 +50,7 @@ returns c =
       row =
           simp z
           (rw (n .before .before .natural .ensures, read-back (g .width) (t .0 .1)) at (c .plane-row .ensures .0));
+      place = simp z (c .plane-row .ensures .2);
     }
 
 mul-result : tie.Need-mul-result
@@ -67,10 +68,8 @@ part-result-end c = search needs
 returns-2 : tie.Need-returns-2
 returns-2 c =
     let r = c .before .before in
-    record {
-      number = r .read-refusal .ensures;
-      row = simp (ne-eqb _ 0 (λ z. c .before .if1 .left (r .read-refusal .ensures ∙ z)));
-    }
+    let no = ne-eqb _ 0 (λ z. c .before .if1 .left (r .read-refusal .ensures ∙ z)) in
+    record { number = r .read-refusal .ensures; row = simp no; place = simp no }
 
 pub row-read-spec : {M : Type 1} → statement M
 row-read-spec =

@@ -9,6 +9,7 @@ use Rattle.samples.specs.Call.{Call, call, ref}
 use Rattle.blocks.specs.declared.block.BlockShape.{BlockShape}
 use Rattle.blocks.specs.declared.block.Stepping.{Stepping}
 use Rattle.planes.specs.declared.plane.PlaneGeom.{PlaneGeom}
+use Rattle.judgement.proofs.Accepted.{told-one, told-two}
 use Rattle.prediction.specs.Predict.{Whole, source, whole, numberOf}
 use Rattle.prediction.proofs.Ready.{callWith, ready, painted-is, after-taken, after-refused, corner}
 use Rattle.prediction.proofs.inter_pred.predict_inter.Statement.{statement}
@@ -82,8 +83,8 @@ call-is c =
     let p2 = c .before in
     let p = p2 .before in
     let e = passed p2 in
-    let j = e .before .before .judge .ensures in
-    same-call (p .before .shape-in .ensures) (p .plane-geom .ensures) (p2 .plane-geom2 .ensures) (j .one (zero e))
+    let j = e .before .before .judge in
+    same-call (p .before .shape-in .ensures) (p .plane-geom .ensures) (p2 .plane-geom2 .ensures) (told-one _ _ _ (j .result) (j .ensures) (zero e))
 
 predict-requires : tie.Need-predict-requires
 predict-requires c κs =
@@ -91,7 +92,7 @@ predict-requires c κs =
     let e = passed (f .before) in
     let s = entry (e .before .before) in
     let j = e .before .before .judge in
-    rw (call-is f, f .first-in .ensures) (ready (asked s) _ _ (j .result .from2) (zero e) (λ t. j .ensures .two (zero e) t))
+    rw (call-is f, f .first-in .ensures) (ready (asked s) _ _ (j .result .from2) (zero e) (told-two (asked s) _ _ (j .result) (j .ensures) (zero e)))
 
 same-length : tie.Need-same-length
 same-length c = search needs
@@ -111,7 +112,7 @@ returns-2 c =
     let out = s .args .out .now in
     record {
       number = p .predict .ensures .0 ∙ sym (zero e);
-      output = o ∙ painted-is (asked s) (j .result .from2) out (λ t. j .ensures .two (zero e) t) ∙ sym (after-taken (asked s) out _ (zero e));
+      output = o ∙ painted-is (asked s) (j .result .from2) out (told-two (asked s) _ _ (j .result) (j .ensures) (zero e)) ∙ sym (after-taken (asked s) out _ (zero e));
       kept = λ d. absurd (d (zero e));
     }
 

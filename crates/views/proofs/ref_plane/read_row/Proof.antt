@@ -6,14 +6,14 @@ use Rattle.views.proofs.Kit.{givenOf, tables, tablesOf, Given, ‵, raw
 use Rattle.views.proofs.Kit.{split, join, pick, rewrite, fjoin, suffices, frame, await, done, look, init, forget, stop, hop, from, addr}
 use Rattle.views.proofs.Kit.{and-then, no-more, assigns, land, returns, enter, alloc1, alloc0, params1, pass1, pass0, free1, free0, FmC, fmOf}
 use Rattle.views.proofs.Kit.{WpFn-mono, owns, Is, shows, uint-makes, uint-vals, uint-tells, uint-lawful, sint-makes, sint-vals, sint-tells}
-use Rattle.views.proofs.Kit.{sint-lawful, u16, u32, usize, i32, RefT, NamedLft, MutRef, ptr-vals, mut-tells, mut-lawful, now, plain, namedLft}
+use Rattle.views.proofs.Kit.{sint-lawful, u16, u32, usize, i32, RefT, NamedLft, MutRef, ptr-vals, mut-tells, mut-lawful, plain, namedLft}
 use Rattle.views.proofs.Kit.{shrSliceOf, sliceVal, ShrSlice, slice-vals, shr-slice-tells, shr-slice-lawful, peeks, heard, nothing, Declared}
 use Rattle.views.proofs.Kit.{Contract, Triple, calls-at, Args, Vals, onEntry, Meets, tripleOf, entered, cited, says, Stays, stay-dropped}
 use Rattle.views.proofs.Kit.{gave-ref, walkOf, goes-dropped, goes-gave-ref, Walks, ends-at, walked, walk-meets, yes, Lasts, ensured, lasts}
 use Rattle.views.proofs.Steps.{_▹_, without, aside, none, fresh, local-at}
 use Rattle.views.proofs.Kit.LL
 use Rattle.planes.specs.Plane.{ReadOutcome}
-use Rattle.views.specs.Seen.{plane}
+use Rattle.views.specs.Seen.{sizeOf}
 use Rattle.views.specs.declared.ref_plane.RefPlane.{RefPlane}
 use Rattle.views.proofs.ref_plane.RefPlane as T
 use Rattle.views.proofs.ref_plane.RefPlane.Laws as T′
@@ -106,7 +106,7 @@ module _ {M : Type 1} (𝓤 : URA M) (H : Heap 𝓤) (A : Atoms 𝓤) (W : Given
 
   -- what the callee ensures of what is handed down
   abbrev Said : RefT (List ℕ) → Lasts row.ended κs ca → Type 0
-  Said r ws = ReadOutcome (plane made) y (ws .1 .1 .0) (now r)
+  Said r ws = ReadOutcome (sizeOf made) (made .upper) (made .lower) y (ws .1 .1 .0) r
 
   -- what is kept back while the view is made
   abbrev kept : SProp 𝓤

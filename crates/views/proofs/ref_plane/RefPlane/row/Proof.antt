@@ -6,13 +6,13 @@ use Rattle.views.proofs.Kit.{Given, ‵, raw, _⊛_, ⋆, some, later, 
 use Rattle.views.proofs.Kit.{frame, await, done, agg, whole, sub, look-in, look, init, forget, stop, hop, fld, from, load, addr, of-opd}
 use Rattle.views.proofs.Kit.{and-then, no-more, assigns, land, returns, enter, alloc1, alloc0, params1, pass1, pass0, free1, free0, FmC, fmOf}
 use Rattle.views.proofs.Kit.{WpFn-mono, owns, Is, shows, uint-makes, uint-vals, uint-tells, uint-lawful, u16, u32, usize, RefT, NamedLft, MutRef}
-use Rattle.views.proofs.Kit.{ptr-vals, mut-tells, mut-lawful, now, plain, namedLft, sliceVal, ShrSlice, shr-slice-lawful, peeks, heard, nothing}
+use Rattle.views.proofs.Kit.{ptr-vals, mut-tells, mut-lawful, plain, namedLft, sliceVal, ShrSlice, shr-slice-lawful, peeks, heard, nothing}
 use Rattle.views.proofs.Kit.{Declared, Contract, Triple, calls-at, Args, Vals, onEntry, Meets, tripleOf, entered, cited, says, Stays}
 use Rattle.views.proofs.Kit.{stay-dropped, gave-ref, walkOf, goes-dropped, goes-gave-ref, Walks, ends-at, walked, walk-meets, yes, Lasts}
 use Rattle.views.proofs.Kit.{ensured, lasts}
 use Rattle.views.proofs.Steps.{_▹_, without, aside, none, fresh, opened, local-at}
 use Rattle.views.proofs.Kit.LL
-use Rattle.planes.specs.Plane.{lent, ReadOutcome}
+use Rattle.planes.specs.Plane.{ReadOutcome}
 use Rattle.views.specs.declared.ref_plane.RefPlane.{RefPlane}
 use Rattle.views.proofs.ref_plane.RefPlane as T
 use Rattle.views.proofs.ref_plane.RefPlane.Laws as T′
@@ -84,7 +84,7 @@ module _ {M : Type 1} (𝓤 : URA M) (H : Heap 𝓤) (A : Atoms 𝓤) (W : Given
 
   -- what the callee ensures of what is handed down
   abbrev Said : RefT (List ℕ) → Lasts read.ended κs ca → Type 0
-  Said r ws = ReadOutcome (lent self-size (now (self .upper)) (now (self .lower))) y (ws .1 .1 .1 .1 .0) (now r)
+  Said r ws = ReadOutcome self-size (self .upper) (self .lower) y (ws .1 .1 .1 .1 .0) r
 
   module _ (self-is : Is (T.the-row (α κs)) self ((T′.lowered self) ∷ [])) (y-is : Is usize y ((vint w64 y) ∷ []))
       (number-is : Is (MutRef (named 1) κ₁ u32) number ((vptr (number .ptr .0) (number .ptr .1)) ∷ [])) where
