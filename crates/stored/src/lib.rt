@@ -1,27 +1,52 @@
 // Numbers of a stored case, in oracle/README.md's format: little-endian, signed ones in two's complement. Past the record's end every byte is 0.
-ghost use Prim.Native.Nat.{_<_};
+ghost use mathlib.Core.Path.{_≡_};
+ghost use Prim.Native.Nat.{_<_, _≤_};
+ghost use lib.ListN.{getD};
+ghost use Rattle.stored.specs.Bytes.{little, flag, signed, callIn};
 
-pub fn byte_at(record: &[u8], at: usize) -> u8 {
-    if at < record.len() { record[at] } else { 0 }
-}
-
-pub fn flag_at(record: &[u8], at: usize) -> bool {
-    byte_at(record, at) != 0
-}
-
-pub fn u32_at(record: &[u8], at: usize) -> u32
-    requires { ⌜ at < 65536 ⌝ }
+pub fn byte_at(bytes: &[u8], at: usize) -> u8
+    ensures { λ r. ⌜ r ≡ getD (now (bytes .entry)) at 0 ⌝ }
 {
-    wide(byte_at(record, at))
-        | (wide(byte_at(record, at + 1)) << 8)
-        | (wide(byte_at(record, at + 2)) << 16)
-        | (wide(byte_at(record, at + 3)) << 24)
+    if at < bytes.len() { bytes[at] } else { 0 }
 }
 
-pub fn i32_at(record: &[u8], at: usize) -> i32
-    requires { ⌜ at < 65536 ⌝ }
+pub fn flag_at(bytes: &[u8], at: usize) -> bool
+    ensures { λ r. ⌜ r ≡ flag (now (bytes .entry)) at ⌝ }
 {
-    let x = u32_at(record, at);
+    byte_at(bytes, at) != 0
+}
+
+fn wide(x: u8) -> u32
+    ensures { λ r. ⌜ (r ≡ x) × (r ≤ 255) ⌝ }
+{
+    x as u32
+}
+
+fn word(x: u32) -> usize
+    ensures { λ r. ⌜ (r ≡ x) × (r ≤ 4294967295) ⌝ }
+{
+    x as usize
+}
+
+pub fn u32_at(bytes: &[u8], at: usize) -> u32
+    requires { ⌜ at < 65536 ⌝ }
+    ensures { λ r. ⌜ r ≡ little 4 (now (bytes .entry)) at ⌝ }
+{
+    let next = at + 1;
+    let third = next + 1;
+    let last = third + 1;
+    let a = wide(byte_at(bytes, at));
+    let b = wide(byte_at(bytes, next));
+    let c = wide(byte_at(bytes, third));
+    let d = wide(byte_at(bytes, last));
+    a + 256 * (b + 256 * (c + 256 * d))
+}
+
+pub fn i32_at(bytes: &[u8], at: usize) -> i32
+    requires { ⌜ at < 65536 ⌝ }
+    ensures { λ r. ⌜ r ≡ signed (little 4 (now (bytes .entry)) at) ⌝ }
+{
+    let x = u32_at(bytes, at);
     if x < 2147483648 {
         x as i32
     } else {
@@ -30,28 +55,25 @@ pub fn i32_at(record: &[u8], at: usize) -> i32
 }
 
 // A u64 of the file is a usize of the call.
-pub fn usize_at(record: &[u8], at: usize) -> usize
+pub fn usize_at(bytes: &[u8], at: usize) -> usize
     requires { ⌜ at < 32768 ⌝ }
+    ensures { λ r. ⌜ r ≡ little 8 (now (bytes .entry)) at ⌝ }
 {
-    word(u32_at(record, at)) | (word(u32_at(record, at + 4)) << 32)
+    let a = word(u32_at(bytes, at));
+    let b = word(u32_at(bytes, at + 4));
+    a + 4294967296 * b
 }
 
 // The number of a file's call, or 0 where the file does not begin as one of cases does.
-pub fn call_of(header: &[u8]) -> u32 {
+pub fn call_of(header: &[u8]) -> u32
+    ensures { λ r. ⌜ r ≡ callIn (now (header .entry)) ⌝ }
+{
     let magic = u32_at(header, 0);
     if magic == 0x424f_4e4b {
         u32_at(header, 4)
     } else {
         0
     }
-}
-
-fn wide(x: u8) -> u32 {
-    x as u32
-}
-
-fn word(x: u32) -> usize {
-    x as usize
 }
 
 // Writes 'NAME: N cases, D differences'.
