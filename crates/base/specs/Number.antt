@@ -13,7 +13,7 @@ between low high x = leZ low x && leZ x high
 unfoldable pub within : ℕ → ℕ → ℕ → Bool
 within low high x = leb low x && leb x high
 
--- Clip3( low, high, x ) of the standard's 4.7; document 01: "Test below low first, then above high", which decides where the ends cross
+-- Clip3( low, high, x ) of the standard's 4.6; document 01: "Test below low first, then above high", which decides where the ends cross
 unfoldable pub clip3 : ℤ → ℤ → ℤ → ℤ
 clip3 low high x = cond (ltZ x low) low (cond (ltZ high x) high x)
 

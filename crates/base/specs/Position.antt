@@ -7,10 +7,13 @@ abbrev pub toN : ℤ → ℕ
 toN (pos n) = n
 toN (negsuc n) = 0
 
--- z / 16, rounded down
+-- z / k, rounded down
+abbrev pub floorBy : ℕ → ℤ → ℤ
+floorBy k (pos n) = pos (n / k)
+floorBy k (negsuc n) = negsuc (n / k)
+
 abbrev pub floor16 : ℤ → ℤ
-floor16 (pos n) = pos (n / 16)
-floor16 (negsuc n) = negsuc (n / 16)
+floor16 z = floorBy 16 z
 
 -- z mod 16, always 0..15
 abbrev pub mod16 : ℤ → ℕ

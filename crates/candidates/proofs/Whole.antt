@@ -14,7 +14,7 @@ use Rattle.places.specs.Places.{places, offset}
 use Rattle.records.specs.Tables.{Tables, frameAt, mvAt, spot, own}
 use Rattle.candidates.specs.Offers.{none, offers, run, ofTarget, biasOf, turned, wanted, otherOf, others}
 use Rattle.candidates.specs.Search.{ifInside, subPlace, samePlace, otherPlace, prevSame, prevOther, allOffers, candidates}
-use Rattle.candidates.specs.Scan.{fits, covered, asked, offered, listOf, placeOf, prevOf, subRecord, subPlaceAt, nearestOf}
+use Rattle.candidates.specs.Scan.{suits, covered, asked, offered, listOf, placeOf, prevOf, subRecord, subPlaceAt, nearestOf}
 use Rattle.records.specs.declared.geometry.MvRefGeometry.{MvRefGeometry}
 use Rattle.records.specs.declared.geometry.Spot.{Spot}
 use Rattle.records.specs.declared.geometry.Spot.the-variants.{Out, Cell}
@@ -45,12 +45,12 @@ ask target bias other = record { target = target; «sign_bias» = bias; other = 
 
 module _ (frames mvs : List ℤ) (target : ℤ) (bias : List Bool) (i : ℕ) where
   others-is : run (listOf frames mvs (ask target bias true) i) 2 0 ≡ others frames mvs target bias i
-  unfolding run others listOf asked offered fits covered otherOf wanted
+  unfolding run others listOf asked offered suits covered otherOf wanted
   others-is = refl
 
   by-frames : (a b : Bool) → equal (frameAt frames i 0) target ≡ a → equal (frameAt frames i 1) target ≡ b
       → run (listOf frames mvs (ask target bias false) i) 2 0 ≡ ofTarget frames target i (mvAt mvs i)
-  unfolding run listOf asked offered fits covered ofTarget
+  unfolding run listOf asked offered suits covered ofTarget
   by-frames true true e0 e1 = rw (e0, e1, unturned bias (frameAt frames i 0) target (mvAt mvs i 0) e0)
   by-frames true false e0 e1 = rw (e0, e1, unturned bias (frameAt frames i 0) target (mvAt mvs i 0) e0)
   by-frames false true e0 e1 = rw (e0, e1, unturned bias (frameAt frames i 1) target (mvAt mvs i 1) e1)

@@ -38,7 +38,8 @@ prevSame t g target usePrev = cond usePrev (ofTarget (t .prevFrames) target (own
 unfoldable pub prevOther : Tables → MvRefGeometry → ℤ → List Bool → Bool → List Mv
 prevOther t g target bias usePrev = cond usePrev (others (t .prevFrames) (t .prevMvs) target bias (own g)) []
 
--- every offer, in order. Step 3's "If any place was inside" needs no test: where none is, no place offers anything
+-- every offer, in order. Step 3's "If any place was inside" needs no test: `alone` (proofs/Alone.antt) proves that where no place is inside
+-- the offers are the previous record's alone
 unfoldable pub allOffers : Tables → MvRefGeometry → ℤ → ℤ → List Bool → Bool → List Mv
 allOffers t g target block bias usePrev =
     run (subPlace t g target block) 2 0

@@ -24,8 +24,8 @@ pub struct Ask {
     pub other: bool,
 }
 
-fn fits(ask: Ask, frame: i32) -> bool
-    ensures { λ r. ⌜ r ≡ Scan.fits ask frame ⌝ }
+fn suits(ask: Ask, frame: i32) -> bool
+    ensures { λ r. ⌜ r ≡ Scan.suits ask frame ⌝ }
 {
     if ask.other {
         (0 < frame) & (frame != ask.target)
@@ -51,7 +51,7 @@ fn asked(frames: &[i8], mvs: &[i16], i: usize, list: usize, ask: Ask) -> bool
     requires { ⌜ list < 2 ⌝ }
     ensures { λ r. ⌜ r ≡ Scan.asked (now (frames .entry)) (now (mvs .entry)) ask i list ⌝ }
 {
-    if fits(ask, records::frame_at(frames, i, list)) {
+    if suits(ask, records::frame_at(frames, i, list)) {
         if list == 1 {
             !covered(frames, mvs, i, ask)
         } else {

@@ -1,5 +1,5 @@
 -- Block sizes 0..12, from 4x4 to 64x64, in cells of 8 by 8 luma samples: the standard's num_8x8_blocks_high_lookup and
--- num_8x8_blocks_wide_lookup (10.3 of the standard; document 01 names src/partition.rs). Assumes nothing.
+-- num_8x8_blocks_wide_lookup (10.2 of the standard; document 01 names src/partition.rs). Assumes nothing.
 use Prim.Native.Nat.{ℕ}
 use mathlib.Core.List.{List, [], _∷_}
 use lib.ListN.{getD}

@@ -17,7 +17,7 @@ use Rattle.base.specs.declared.units.Mv.{Mv}
 use Rattle.base.proofs.Answered.{unless-zero}
 use Rattle.base.proofs.Tests.{clash, and-both, and-three, and-four, within-both, abs-between}
 use Rattle.vectors.specs.BlockMvs.{legalList, legalBlock}
-use Rattle.vectors.specs.Select.{selectMv, selectRows, chosen, allFour, listOf, partnered}
+use Rattle.vectors.specs.Select.{selectMv, selectRows, chosen, allFour, listNumber, partnered}
 use Rattle.vectors.specs.Clamp.{clampMv, clampRows, onAxis}
 use Rattle.vectors.specs.Scale.{scaleMv, scaleRows, placed, stepAxis}
 use Rattle.selection.proofs.Near.{chosen-legal}
@@ -110,7 +110,7 @@ step-between reference frame e = rw (le-leb 1 _ (e .0), le-leb _ 32 (e .1))
 
 -- a list that is looked at: its vectors are legal and its reference is allowed
 pub record Looked (a : Whole) (second : Bool) (s : Source) : Type 0 where
-  pub vectors : legalList (a .mvs) (listOf second) ≡ true
+  pub vectors : legalList (a .mvs) (listNumber second) ≡ true
   pub size : allowedRef (a .frame) (s .geom) ≡ true
 
 module _ (a : Whole) (n m : ℕ) (ok : Accepted a n m) (second : Bool) (s : Source) (look : Looked a second s) where
@@ -121,10 +121,10 @@ module _ (a : Whole) (n m : ℕ) (ok : Accepted a n m) (second : Bool) (s : Sour
   sy = a .frame .«subsampling_y»
 
   abbrev v : Mv
-  v = chosen (a .mvs) (listOf second) (a .args .plane) (a .grid .«mi_size») (a .args .block) sx sy
+  v = chosen (a .mvs) (listNumber second) (a .args .plane) (a .grid .«mi_size») (a .args .block) sx sy
 
   abbrev of : List (List Eighth)
-  of = getD (a .mvs) (listOf second) []
+  of = getD (a .mvs) (listNumber second) []
 
   -- the selection is not refused, though it is handed the one list twice
   twice : legalBlock (of ∷ of ∷ []) ≡ true
@@ -160,7 +160,7 @@ module _ (a : Whole) (n m : ℕ) (ok : Accepted a n m) (second : Bool) (s : Sour
   clamp-zero : answer (clampRows (a .grid) v (a .args .plane)) ≡ 0
   clamp-zero =
       let t = tests in
-      let legal = chosen-legal (a .mvs) (listOf second) (a .args .plane) (a .grid .«mi_size») (a .args .block) sx sy
+      let legal = chosen-legal (a .mvs) (listNumber second) (a .args .plane) (a .grid .«mi_size») (a .args .block) sx sy
       (omega (arith, leb-true (a .args .block) 3 (t .1 .0))) (t .1 .1 .1) (look .vectors) in
       zero-three _ _ _ (both-true (t .0) (t .1 .1 .0)) (ok .grid) legal
 

@@ -9,7 +9,7 @@ use Rattle.base.specs.Answer.{Row, row, answer, BLOCK, GRID, FILTER, SIZE, STAR
 use Rattle.base.specs.Number.{within}
 use Rattle.base.specs.Position.{toN}
 use Rattle.vectors.specs.BlockMvs.{BlockMvs, legalList}
-use Rattle.vectors.specs.Select.{chosen, listOf, partnered}
+use Rattle.vectors.specs.Select.{chosen, listNumber, partnered}
 use Rattle.vectors.specs.Clamp.{clampMv, onAxis}
 use Rattle.vectors.specs.Scale.{scaleMv, usable, placed}
 use Rattle.vectors.specs.declared.inter_mv.BlockGrid.{BlockGrid}
@@ -80,20 +80,20 @@ unfoldable pub steppingOf : Whole → Bool → Source → Stepping
 steppingOf a second s =
     let sx = a .frame .«subsampling_x» in
     let sy = a .frame .«subsampling_y» in
-    let v = chosen (a .mvs) (listOf second) (a .args .plane) (a .grid .«mi_size») (a .args .block) sx sy in
+    let v = chosen (a .mvs) (listNumber second) (a .args .plane) (a .grid .«mi_size») (a .args .block) sx sy in
     let p = clampMv (a .grid) v (a .args .plane) sx sy .mv in
     let q = scaleMv (scaleGeom (a .frame) (s .geom)) (a .args .plane) (a .args .x) (a .args .y) p in
     record { «start_x» = q .«start_x»; «start_y» = q .«start_y»; «step_x» = q .«step_x»; «step_y» = q .«step_y» }
 
 -- "It writes only the part of the block inside the destination": of n samples from place at on, those before the end
-abbrev pub inside : ℤ → ℕ → ℕ → ℕ
-inside at n end = min n (end - toN at)
+abbrev pub countInside : ℤ → ℕ → ℕ → ℕ
+countInside at n end = min n (end - toN at)
 
 abbrev pub shapeIn : InterPredArgs → DestGeom → BlockShape
 shapeIn b d =
     record {
-      w = inside (b .x) (b .w) (d .width);
-      h = inside (b .y) (b .h) (d .height);
+      w = countInside (b .x) (b .w) (d .width);
+      h = countInside (b .y) (b .h) (d .height);
       filter = b .filter;
       depth = b .depth;
       average = b .average;
@@ -110,7 +110,7 @@ allowedRef f g = usable (g .«frame_width») (f .width) && usable (g .«frame_he
 unfoldable pub destFits : DestGeom → ℕ → Bool
 destFits d n = within 1 65536 (d .width) && within 1 65536 (d .height) && holds (d .height) (d .width) (d .width) n
 
--- row 1: "block size above 12; sub-block not 0..3; plane above 2; a partner sub-block that doesn't exist"
+-- row 1: "block size above 12", "sub-block not -1..3 in the search or 0..3 elsewhere", "plane above 2", "a partner sub-block that doesn't exist"
 unfoldable pub blockOk : InterPredArgs → BlockGrid → FrameGeom → Bool
 blockOk b g f =
     leb (g .«mi_size») 12 && leb (b .block) 3 && leb (b .plane) 2

@@ -63,7 +63,7 @@ subMv m b = record { row = getD (getD m b []) 0 (eighth (pos 0)); col = getD (ge
 unfoldable pub legalFour : List (List Eighth) → Bool
 legalFour m = legalMv (subMv m 0) && legalMv (subMv m 1) && legalMv (subMv m 2) && legalMv (subMv m 3)
 
--- "refusals of the search" with sub-blocks 0..3, "and 9 in the table's order"
+-- the search's rows, row 1 with "sub-block not -1..3 in the search or 0..3 elsewhere", and row 9
 abbrev pub appendRows : Tables → MvRefGeometry → ℤ → ℕ → List (List Eighth) → Bool → List Row
 appendRows t g target block m usePrev =
     row BLOCK (leb (g .«mi_size») 12 && leb block 3)

@@ -16,7 +16,7 @@ use Rattle.taps.specs.Kernel.{apart, clipped, heldFrom, level, ran, ranRows, se
 use Rattle.copies.specs.Copy.{Rows, clippedRows, still}
 use Rattle.taps.proofs.Filtered.{filtered-same, filtered-whole}
 use Rattle.planes.specs.Plane.{Lent, plane, rowOf, widthOf, heightOf, holds, fits}
-use Rattle.passes.specs.Lifted.{acrossFrom, copyFrom, inside}
+use Rattle.passes.specs.Lifted.{acrossFrom, copyFrom, unheld}
 use Rattle.planes.proofs.Bands.{row-at, holds-row, fits-says}
 
 -- a row of the plane as a list
@@ -42,9 +42,9 @@ across-copy max filter p start y0 i c f4 z =
     let column : start / 16 + 3 + c ≡ (start + 16 * c) / 16 + 3 = omega arith in
     rw (phase, column) (sym (filtered-whole max filter _ f4))
 
-pub inside-says : (b n m : ℕ) → inside b n m ≡ true → (200003 ≤ b) × (b - 200003 + n ≤ m)
-unfolding inside
-inside-says b n m e = let t = and-both _ _ e in (leb-true _ _ (t .0), leb-true _ _ (t .1))
+pub unheld-says : (b n m : ℕ) → unheld b n m ≡ true → (200003 ≤ b) × (b - 200003 + n ≤ m)
+unfolding unheld
+unheld-says b n m e = let t = and-both _ _ e in (leb-true _ _ (t .0), leb-true _ _ (t .1))
 
 at-inside : (b n m c : ℕ) → 200003 ≤ b → b - 200003 + n ≤ m → c < n → min (b + c - 200003) (m - 1) ≡ b - 200003 + c
 at-inside b n m c h k cn = omega arith
@@ -84,13 +84,13 @@ row-in-le r e k q = rw q (by-test (ltb e k))
     by-test false = sub-le e k
 
 -- a rectangle inside the plane, in one of its bands
-module _ (max : ℕ) (p : Lent) (b y0 w n : ℕ) (in-x : inside b w (widthOf (p .geom)) ≡ true) (in-y : inside y0 n (heightOf (p .geom)) ≡ true)
+module _ (max : ℕ) (p : Lent) (b y0 w n : ℕ) (in-x : unheld b w (widthOf (p .geom)) ≡ true) (in-y : unheld y0 n (heightOf (p .geom)) ≡ true)
     (fit : fits p ≡ true) where
   x : (200003 ≤ b) × (b - 200003 + w ≤ widthOf (p .geom))
-  x = inside-says b w (widthOf (p .geom)) in-x
+  x = unheld-says b w (widthOf (p .geom)) in-x
 
   y : (200003 ≤ y0) × (y0 - 200003 + n ≤ heightOf (p .geom))
-  y = inside-says y0 n (heightOf (p .geom)) in-y
+  y = unheld-says y0 n (heightOf (p .geom)) in-y
 
   pub upper-fits : y0 - 200003 + n ≤ p .geom .«upper_rows»
       → Rows n (p .geom .stride) w ((y0 - 200003) * p .geom .stride + (b - 200003)) (length (p .upper))

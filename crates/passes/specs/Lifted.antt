@@ -21,8 +21,8 @@ copyFrom max p b y0 i c =
     min (plane p (min (y0 + i - 200003) (heightOf (p .geom) - 1)) (min (b + c - 200003) (widthOf (p .geom) - 1))) max
 
 -- n lifted columns, or rows, from b on are all among m
-unfoldable pub inside : ℕ → ℕ → ℕ → Bool
-inside b n m = leb 200003 b && leb (b - 200003 + n) m
+unfoldable pub unheld : ℕ → ℕ → ℕ → Bool
+unheld b n m = leb 200003 b && leb (b - 200003 + n) m
 
 -- the vertical pass over a room whose rows are 64 apart
 unfoldable pub downAt : ℕ → (ℕ → ℕ → ℤ) → List ℕ → ℕ → ℕ → ℕ → ℕ → ℕ

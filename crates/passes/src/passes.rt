@@ -96,9 +96,9 @@ fn rows_held<'a>(
     }
 }
 
-fn inside(b: usize, n: usize, m: usize) -> bool
+fn unheld(b: usize, n: usize, m: usize) -> bool
     requires { ⌜ (b ≤ 400003) × (n ≤ 134) ⌝ }
-    ensures { λ r. ⌜ r ≡ Lifted.inside b n m ⌝ }
+    ensures { λ r. ⌜ r ≡ Lifted.unheld b n m ⌝ }
 {
     if b < 200003 {
         return false;
@@ -154,7 +154,7 @@ fn pass_copied<'a>(
     ensures { λ _. ⌜ now (out .exit) ≡ paint (now (out .entry)) rs w n
         (copyFrom max (view pw ph stride k (now (upper .entry)) (now (lower .entry))) b y0) ⌝ }
 {
-    if inside(b, w, pw) & inside(y0, n, ph) {
+    if unheld(b, w, pw) & unheld(y0, n, ph) {
         let d = b - 200003;
         let e = y0 - 200003;
         if whole(e, n, k) {
@@ -267,7 +267,7 @@ fn pass_even<'a>(
         (acrossFrom max (tap (p .filter)) (view pw ph stride k (now (upper .entry)) (now (lower .entry))) start 16 y0) ⌝ }
 {
     let b = start / 16;
-    if inside(b, w + 7, pw) & inside(y0, n, ph) {
+    if unheld(b, w + 7, pw) & unheld(y0, n, ph) {
         let d = b - 200003;
         let e = y0 - 200003;
         if e + n <= k {

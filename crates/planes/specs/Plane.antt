@@ -12,7 +12,7 @@ use Rattle.base.specs.Number.{between, within}
 use Rattle.base.specs.Position.{toN}
 use Rattle.planes.specs.declared.plane.PlaneGeom.{PlaneGeom}
 
--- a plane as it is lent: its numbers, "the upper band holds rows 0..k-1, the lower the rest, with one stride for both"
+-- a plane as it is lent: its numbers, "The upper band holds rows 0..k-1, the lower the rest, with one stride for both"
 pub record Lent : Type 0 where
   pub geom : PlaneGeom
   pub upper : List ℕ

@@ -18,6 +18,6 @@ pub predict-inter-refused : (a : Whole) (out room : List ℕ) (n m : ℕ) (o p v
 predict-inter-refused a out room n m o p v w x y d =
     let e = x .kept (λ z. d (x .number ∙ z)) in e ∙ sym (y .kept (λ z. d (x .number ∙ z)))
 
--- "Where several apply, the lowest number is given. A number is given exactly when its row says so"
+-- "Where several apply, the lowest number is given", "A number is given exactly when its row says so"
 pub predict-inter-lowest : (a : Whole) (n m : ℕ) → Lowest (predictRows a n m)
 predict-inter-lowest a n m = lowest (predictRows a n m) refl

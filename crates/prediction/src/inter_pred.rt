@@ -23,8 +23,8 @@ use samples::Stepping;
 use vectors::BlockGrid;
 
 // Of n samples from place at on, those before the end.
-fn inside(at: i32, n: usize, end: usize) -> usize
-    ensures { λ r. ⌜ r ≡ Predict.inside at n end ⌝ }
+fn count_inside(at: i32, n: usize, end: usize) -> usize
+    ensures { λ r. ⌜ r ≡ Predict.countInside at n end ⌝ }
 {
     let first = natural(at);
     if end <= first {
@@ -37,8 +37,8 @@ fn inside(at: i32, n: usize, end: usize) -> usize
 fn shape_in(args: InterPredArgs, dest: DestGeom) -> BlockShape
     ensures { λ r. ⌜ r ≡ Predict.shapeIn args dest ⌝ }
 {
-    let w = inside(args.x, args.w, dest.width);
-    let h = inside(args.y, args.h, dest.height);
+    let w = count_inside(args.x, args.w, dest.width);
+    let h = count_inside(args.y, args.h, dest.height);
     BlockShape {
         w,
         h,

@@ -58,7 +58,7 @@ longEnough t g usePrev =
     leb n (length (t .modes)) && leb (2 * n) (length (t .frames)) && leb (4 * n) (length (t .mvs)) && leb (16 * n) (length (t .subs))
     && cond usePrev (leb (2 * n) (length (t .prevFrames)) && leb (4 * n) (length (t .prevMvs))) true
 
--- "'Inside' means row 0..mi_rows-1 and column in the tile"
+-- Inside: "row 0..mi_rows-1 and column in the tile"
 unfoldable pub inside : MvRefGeometry → ℤ → ℤ → Bool
 inside g row col =
     leZ (pos 0) row && ltZ row (g .«mi_rows») && leZ (g .«mi_col_start») col && ltZ col (g .«mi_col_end»)

@@ -25,7 +25,7 @@ pub predict-refused : (a : Call) (out room : List ℕ) (n m : ℕ) (o p v w : Li
     → (n ≡ 0 → ⊥) → v ≡ w
 predict-refused a out room n m o p v w x y d = x .kept (λ z. d (x .number ∙ z)) ∙ sym (y .kept (λ z. d (x .number ∙ z)))
 
--- "Where several apply, the lowest number is given. A number is given exactly when its row says so"
+-- "Where several apply, the lowest number is given", "A number is given exactly when its row says so"
 pub read-lowest : (p : Lent) (y : ℕ) → Lowest (readRows p y)
 read-lowest p y = lowest (readRows p y) refl
 

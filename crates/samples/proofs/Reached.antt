@@ -12,7 +12,7 @@ use Rattle.taps.specs.Taps.{tap}
 use Rattle.blocks.specs.Sample.{across, sample, blend}
 use Rattle.planes.specs.Plane.{Lent, plane, widthOf, heightOf}
 use Rattle.samples.specs.Call.{Ref, ref, Call, fromRef, value}
-use Rattle.samples.specs.Reach.{low, high, Agree, SamePlane, Piece, Rectangle}
+use Rattle.samples.specs.Reach.{firstRead, lastRead, Agree, SamePlane, Piece, Rectangle}
 use Rattle.blocks.specs.declared.block.BlockShape.{BlockShape}
 use Rattle.blocks.specs.declared.block.Stepping.{Stepping}
 use Rattle.taps.proofs.Filtered.{samples-same}
@@ -29,28 +29,28 @@ up : (z : ℤ) → Up z
 up (pos n) = record { q = n; k = 0; is = diff-pos n }
 up (negsuc n) = record { q = 16 * suc n - suc n; k = suc n; is = diff-neg n (16 * suc n) (omega arith) }
 
-low-is : (last : ℕ) (z : ℤ) (q k : ℕ) → Lifted z q k → low last z ≡ min (q / 16 - (k + 3)) last
-unfolding low hold
-low-is last z q k l =
+first-is : (last : ℕ) (z : ℤ) (q k : ℕ) → Lifted z q k → firstRead last z ≡ min (q / 16 - (k + 3)) last
+unfolding firstRead hold
+first-is last z q k l =
     let three : Diff (negsuc 2) 0 3 = record { is = refl } in
     let e : toN (floor16 z -ℤ pos 3) ≡ q / 16 - (k + 3) = omega (arith, diff-toN _ _ _ (diff-add (l .floor) three)) in
     ap (λ (n : ℕ). min n last) e
 
-high-is : (last : ℕ) (z : ℤ) (step n q k : ℕ) → Lifted (along z step (n - 1)) q k → high last z step n ≡ min (q / 16 + 4 - k) last
-unfolding high hold
-high-is last z step n q k l =
+last-is : (last : ℕ) (z : ℤ) (step n q k : ℕ) → Lifted (along z step (n - 1)) q k → lastRead last z step n ≡ min (q / 16 + 4 - k) last
+unfolding lastRead hold
+last-is last z step n q k l =
     let e : toN (floor16 (along z step (n - 1)) +ℤ pos 4) ≡ q / 16 + 4 - k = omega (arith, diff-toN _ _ _ (diff-add (l .floor) (diff-pos 4))) in
     ap (λ (m : ℕ). min m last) e
 
 -- what each tap reads at each position is between the first and the last
 pub in-reach : (last : ℕ) (s : ℤ) (step n i t : ℕ) → i < n → t < 8
-    → (low last s ≤ place last (along s step i) t) × (place last (along s step i) t ≤ high last s step n)
+    → (firstRead last s ≤ place last (along s step i) t) × (place last (along s step i) t ≤ lastRead last s step n)
 in-reach last s step n i t lt t8 =
     let u = up s in
     let at : (j : ℕ) → Lifted (along s step j) (u .q + step * j) (u .k) = λ j. lifted _ _ (u .k) (diff-along step j (u .is)) in
     let far : step * i ≤ step * (n - 1) = mul-le-mul-left step (omega arith) in
-    let a = low-is last s (u .q) (u .k) (lifted s (u .q) (u .k) (u .is)) in
-    let b = high-is last s step n (u .q + step * (n - 1)) (u .k) (at (n - 1)) in
+    let a = first-is last s (u .q) (u .k) (lifted s (u .q) (u .k) (u .is)) in
+    let b = last-is last s step n (u .q + step * (n - 1)) (u .k) (at (n - 1)) in
     let c = place-lifted last (along s step i) (u .q + step * i) (u .k) t (at i) in
     (omega arith, omega arith)
 
@@ -79,9 +79,9 @@ reach b s one two a r c rh cw =
     let x = in-reach (widthOf (one .geom) - 1) (s .«start_x» .0) (toN (s .«step_x» .0)) (b .w) c u cw u8 in
     a .samples _ _ (v .0) (v .1) (x .0) (x .1)))
 
-high-le : (last : ℕ) (z : ℤ) (step n : ℕ) → high last z step n ≤ last
-unfolding high hold
-high-le last z step n = min-le-right _ _
+last-le : (last : ℕ) (z : ℤ) (step n : ℕ) → lastRead last z step n ≤ last
+unfolding lastRead hold
+last-le last z step n = min-le-right _ _
 
 -- two lendings of one plane agree on all of it, so that the parting into bands does not matter
 pub parting : (b : BlockShape) (s : Stepping) (one two : Lent) → SamePlane one two → 0 < widthOf (one .geom) → 0 < heightOf (one .geom)
@@ -95,8 +95,8 @@ parting b s one two same wide tall =
       height = same .height;
       samples = λ v u v0 v1 u0 u1.
           same .samples v u
-          (omega (arith, high-le Y (s .«start_y» .0) (toN (s .«step_y» .0)) (b .h)))
-          (omega (arith, high-le X (s .«start_x» .0) (toN (s .«step_x» .0)) (b .w)));
+          (omega (arith, last-le Y (s .«start_y» .0) (toN (s .«step_y» .0)) (b .h)))
+          (omega (arith, last-le X (s .«start_x» .0) (toN (s .«step_x» .0)) (b .w)));
     })
 
 -- ---- rectangles

@@ -9,22 +9,22 @@ use Rattle.samples.specs.Call.{Ref, Call}
 use Rattle.blocks.specs.declared.block.Stepping.{Stepping}
 
 -- the first column, or row, that a block can read: floor(start/16) - 3, held
-unfoldable pub low : ℕ → ℤ → ℕ
-low last start = hold last (floor16 start -ℤ pos 3)
+unfoldable pub firstRead : ℕ → ℤ → ℕ
+firstRead last start = hold last (floor16 start -ℤ pos 3)
 
 -- the last one, of n positions: floor((start + step x (n - 1))/16) + 4, held
-unfoldable pub high : ℕ → ℤ → ℕ → ℕ → ℕ
-high last start step n = hold last (floor16 (along start step (n - 1)) +ℤ pos 4)
+unfoldable pub lastRead : ℕ → ℤ → ℕ → ℕ → ℕ
+lastRead last start step n = hold last (floor16 (along start step (n - 1)) +ℤ pos 4)
 
 -- two planes of one size agree on the rectangle that w by h positions can read
 pub record Agree (s : Stepping) (w h : ℕ) (one two : Lent) : Type 0 where
   pub width : widthOf (one .geom) ≡ widthOf (two .geom)
   pub height : heightOf (one .geom) ≡ heightOf (two .geom)
   pub samples : (v u : ℕ)
-      → low (heightOf (one .geom) - 1) (s .«start_y» .0) ≤ v
-      → v ≤ high (heightOf (one .geom) - 1) (s .«start_y» .0) (toN (s .«step_y» .0)) h
-      → low (widthOf (one .geom) - 1) (s .«start_x» .0) ≤ u
-      → u ≤ high (widthOf (one .geom) - 1) (s .«start_x» .0) (toN (s .«step_x» .0)) w
+      → firstRead (heightOf (one .geom) - 1) (s .«start_y» .0) ≤ v
+      → v ≤ lastRead (heightOf (one .geom) - 1) (s .«start_y» .0) (toN (s .«step_y» .0)) h
+      → firstRead (widthOf (one .geom) - 1) (s .«start_x» .0) ≤ u
+      → u ≤ lastRead (widthOf (one .geom) - 1) (s .«start_x» .0) (toN (s .«step_x» .0)) w
       → plane one v u ≡ plane two v u
 
 -- one plane, however its rows are parted into bands

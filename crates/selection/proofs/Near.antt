@@ -11,7 +11,7 @@ use Rattle.base.proofs.Bd.{bd, lit, _⊕_, _⊖_, abs-quot}
 use Rattle.base.proofs.Legal.{row-bd, col-bd}
 use Rattle.base.proofs.Tests.{abs-between}
 use Rattle.selection.specs.BlockMvs.{BlockMvs, legalList}
-use Rattle.selection.specs.Select.{halved, quartered, pair, quad, allFour, own, apart, partnered, chosen}
+use Rattle.selection.specs.Select.{halved, quartered, pair, quad, allFour, ownVector, partnerOff, partnered, chosen}
 use Rattle.selection.proofs.Parts.{legal-at, partner-below}
 
 half-small : (v : ℤ) → natAbs v ≤ 65534 → natAbs (halved v) ≤ 32767
@@ -53,12 +53,12 @@ choice false true u v w x y e f g h = f refl
 choice false false true v w x y e f g h = g refl refl
 choice false false false v w x y e f g h = h
 
-apart-small : (sx sy : Bool) → apart sx sy ≤ 2
-unfolding apart
-apart-small true true = omega arith
-apart-small true false = omega arith
-apart-small false true = omega arith
-apart-small false false = omega arith
+off-small : (sx sy : Bool) → partnerOff sx sy ≤ 2
+unfolding partnerOff
+off-small true true = omega arith
+off-small true false = omega arith
+off-small false true = omega arith
+off-small false false = omega arith
 
 -- the vector that a plane takes from a legal list is legal
 pub chosen-legal : (m : BlockMvs) (list plane size b : ℕ) (sx sy : Bool) → b < 4 → partnered plane size b sx sy ≡ true → legalList m list ≡ true
@@ -66,8 +66,8 @@ pub chosen-legal : (m : BlockMvs) (list plane size b : ℕ) (sx sy : Bool) → b
 unfolding chosen allFour
 chosen-legal m list plane size b sx sy lt partner e =
     let at = legal-at m list e in
-    choice (own plane size) (sx && sy) (sx || sy) _ _ _ _
+    choice (ownVector plane size) (sx && sy) (sx || sy) _ _ _ _
     (λ q. at b lt)
     (λ q. quad-legal _ _ _ _ (at 0 (omega arith)) (at 1 (omega arith)) (at 2 (omega arith)) (at 3 (omega arith)))
-    (λ q r. pair-legal _ _ (at b lt) (at (b + apart sx sy) (partner-below plane size b sx sy q (apart-small sx sy) partner)))
+    (λ q r. pair-legal _ _ (at b lt) (at (b + partnerOff sx sy) (partner-below plane size b sx sy q (off-small sx sy) partner)))
     (at b lt)

@@ -7,7 +7,7 @@ use borrow.Author.Tests.{leb-true}
 use Rattle.base.specs.Vector.{legalMv}
 use Rattle.base.proofs.Tests.{and-left, and-right, and-four}
 use Rattle.selection.specs.BlockMvs.{BlockMvs, mvAt, legalList, legalBlock}
-use Rattle.selection.specs.Select.{listOf, own, apart, partnered}
+use Rattle.selection.specs.Select.{listNumber, ownVector, partnerOff, partnered}
 
 -- all four at once
 each : (m : BlockMvs) (list : ℕ) → legalList m list ≡ true
@@ -22,16 +22,16 @@ legal-at m list e (suc (suc zero)) h = each m list e .1 .1 .0
 legal-at m list e (suc (suc (suc zero))) h = each m list e .1 .1 .1
 legal-at m list e (suc (suc (suc (suc b)))) h = absurd (omega arith)
 
-pub legal-list : (m : BlockMvs) → legalBlock m ≡ true → (second : Bool) → legalList m (listOf second) ≡ true
+pub legal-list : (m : BlockMvs) → legalBlock m ≡ true → (second : Bool) → legalList m (listNumber second) ≡ true
 unfolding legalBlock
 legal-list m e true = and-right (legalList m 0) (legalList m 1) e
 legal-list m e false = and-left (legalList m 0) (legalList m 1) e
 
-pub listOf-small : (second : Bool) → listOf second < 2
-listOf-small true = omega arith
-listOf-small false = omega arith
+pub list-number-small : (second : Bool) → listNumber second < 2
+list-number-small true = omega arith
+list-number-small false = omega arith
 
 -- a partner that is asked for stands within the block
-pub partner-below : (plane size b : ℕ) (sx sy : Bool) → own plane size ≡ false → apart sx sy ≤ 2 → partnered plane size b sx sy ≡ true → b + apart sx sy < 4
+pub partner-below : (plane size b : ℕ) (sx sy : Bool) → ownVector plane size ≡ false → partnerOff sx sy ≤ 2 → partnered plane size b sx sy ≡ true → b + partnerOff sx sy < 4
 unfolding partnered
 partner-below plane size b sx sy o far e = let h = leb-true b _ (rw o at e) in omega arith

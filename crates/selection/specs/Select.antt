@@ -27,23 +27,23 @@ unfoldable pub allFour : BlockMvs → ℕ → Mv
 allFour m list = quad (mvAt m list 0) (mvAt m list 1) (mvAt m list 2) (mvAt m list 3)
 
 -- luma, and every block of 8x8 and more, takes its own vector (BLOCK_8X8 is 3)
-unfoldable pub own : ℕ → ℕ → Bool
-own plane size = eqb plane 0 || leb 3 size
+unfoldable pub ownVector : ℕ → ℕ → Bool
+ownVector plane size = eqb plane 0 || leb 3 size
 
--- "halved height pairs sub-block b with b+2; halved width pairs b with b+1": how far off the partner stands
-unfoldable pub apart : Bool → Bool → ℕ
-apart sx sy = cond sx (cond sy 0 1) (cond sy 2 0)
+-- "halved height pairs sub-block b with b+2", "halved width pairs b with b+1": how far off the partner stands
+unfoldable pub partnerOff : Bool → Bool → ℕ
+partnerOff sx sy = cond sx (cond sy 0 1) (cond sy 2 0)
 
 -- the partner is one of sub-blocks 0..3
 unfoldable pub partnered : ℕ → ℕ → ℕ → Bool → Bool → Bool
-partnered plane size b sx sy = own plane size || leb b (3 - apart sx sy)
+partnered plane size b sx sy = ownVector plane size || leb b (3 - partnerOff sx sy)
 
 -- which of the two lists
-abbrev pub listOf : Bool → ℕ
-listOf second = cond second 1 0
+abbrev pub listNumber : Bool → ℕ
+listNumber second = cond second 1 0
 
 unfoldable pub chosen : BlockMvs → ℕ → ℕ → ℕ → ℕ → Bool → Bool → Mv
 chosen m list plane size b sx sy =
-    cond (own plane size) (mvAt m list b)
+    cond (ownVector plane size) (mvAt m list b)
     (cond (sx && sy) (allFour m list)
-    (cond (sx || sy) (pair (mvAt m list b) (mvAt m list (b + apart sx sy))) (mvAt m list b)))
+    (cond (sx || sy) (pair (mvAt m list b) (mvAt m list (b + partnerOff sx sy))) (mvAt m list b)))

@@ -4,5 +4,5 @@ mod select;
 
 pub use block_mvs::is_legal_block;
 pub use select::chosen;
-pub use select::list_of;
+pub use select::list_number;
 pub use select::partnered;

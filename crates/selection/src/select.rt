@@ -81,14 +81,14 @@ fn all_four(m: [[[Eighth; 2]; 4]; 2], list: usize) -> Mv
     )
 }
 
-fn own(plane: usize, size: u8) -> bool
-    ensures { λ r. ⌜ r ≡ Select.own plane size ⌝ }
+fn own_vector(plane: usize, size: u8) -> bool
+    ensures { λ r. ⌜ r ≡ Select.ownVector plane size ⌝ }
 {
     (plane == 0) | (3 <= size)
 }
 
-fn apart(sx: bool, sy: bool) -> usize
-    ensures { λ r. ⌜ (r ≡ Select.apart sx sy) × (r ≤ 2) ⌝ }
+fn partner_off(sx: bool, sy: bool) -> usize
+    ensures { λ r. ⌜ (r ≡ Select.partnerOff sx sy) × (r ≤ 2) ⌝ }
 {
     if sx {
         if sy { 0 } else { 1 }
@@ -100,13 +100,13 @@ fn apart(sx: bool, sy: bool) -> usize
 pub fn partnered(plane: usize, size: u8, block: usize, sx: bool, sy: bool) -> bool
     ensures { λ r. ⌜ r ≡ Select.partnered plane size block sx sy ⌝ }
 {
-    let whole = own(plane, size);
-    let far = apart(sx, sy);
+    let whole = own_vector(plane, size);
+    let far = partner_off(sx, sy);
     whole | (block <= 3 - far)
 }
 
-pub fn list_of(second: bool) -> usize
-    ensures { λ r. ⌜ (r ≡ Select.listOf second) × (r < 2) ⌝ }
+pub fn list_number(second: bool) -> usize
+    ensures { λ r. ⌜ (r ≡ Select.listNumber second) × (r < 2) ⌝ }
 {
     if second { 1 } else { 0 }
 }
@@ -127,14 +127,14 @@ pub fn chosen(
     ensures { λ r. ⌜ r ≡ Select.chosen m list plane size b sx sy ⌝ }
 {
     let v = crate::block_mvs::mv_at(m, list, b);
-    if own(plane, size) {
+    if own_vector(plane, size) {
         return v;
     }
     if sx & sy {
         return all_four(m, list);
     }
     if sx | sy {
-        let far = apart(sx, sy);
+        let far = partner_off(sx, sy);
         return pair(v, crate::block_mvs::mv_at(m, list, b + far));
     }
     v

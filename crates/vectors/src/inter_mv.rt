@@ -56,7 +56,7 @@ pub fn select_mv(
             mv: zero,
         };
     }
-    let list = selection::list_of(second);
+    let list = selection::list_number(second);
     let mv = selection::chosen(mvs, list, plane, size, block, sx, sy);
     SelectedMv { answer: 0, mv }
 }

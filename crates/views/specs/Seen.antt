@@ -8,5 +8,5 @@ use Rattle.views.specs.declared.ref_plane.RefPlane.{RefPlane}
 abbrev pub sizeOf : RefPlane → PlaneGeom
 sizeOf p = geom (p .width) (p .height) (p .stride) (p .«upper_rows»)
 
-abbrev pub plane : RefPlane → Lent
-plane p = lent (sizeOf p) (now (p .upper)) (now (p .lower))
+abbrev pub lentBy : RefPlane → Lent
+lentBy p = lent (sizeOf p) (now (p .upper)) (now (p .lower))

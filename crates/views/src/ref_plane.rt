@@ -3,7 +3,7 @@ ghost use mathlib.Core.Path.{_≡_};
 ghost use Rattle.base.specs.Answer.{answer};
 ghost use Rattle.planes.specs.Plane.{geom, lent, readRows, ReadOutcome};
 ghost use Rattle.samples.specs.Call.{call, ref, Outcome};
-ghost use Rattle.views.specs.Seen.{sizeOf, plane};
+ghost use Rattle.views.specs.Seen.{sizeOf, lentBy};
 use samples::BlockShape;
 use samples::PlaneGeom;
 use samples::Stepping;
@@ -70,7 +70,7 @@ impl<'a> RefPlane<'a> {
         out: &mut [u16],
         stride: usize,
     ) -> u32
-        ensures { λ r. ⌜ Outcome (call shape (ref (plane (self .entry)) from) (ref (plane (self .entry)) from) stride)
+        ensures { λ r. ⌜ Outcome (call shape (ref (lentBy (self .entry)) from) (ref (lentBy (self .entry)) from) stride)
             (now (out .entry)) (now (room .entry)) r (now (out .exit)) (now (room .exit)) ⌝ }
     {
         let size = PlaneGeom {
@@ -106,7 +106,7 @@ impl<'a> RefPlane<'a> {
         out: &mut [u16],
         stride: usize,
     ) -> u32
-        ensures { λ r. ⌜ Outcome (call shape (ref (plane (self .entry)) from) (ref (plane (other .entry)) from2) stride)
+        ensures { λ r. ⌜ Outcome (call shape (ref (lentBy (self .entry)) from) (ref (lentBy (other .entry)) from2) stride)
             (now (out .entry)) (now (room .entry)) r (now (out .exit)) (now (room .exit)) ⌝ }
     {
         let size = PlaneGeom {

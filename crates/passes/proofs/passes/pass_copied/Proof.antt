@@ -9,10 +9,10 @@ use Rattle.base.proofs.Lift.{Start}
 use Rattle.base.proofs.Painted.{paint-same}
 use Rattle.base.proofs.Tests.{and-both}
 use Rattle.planes.specs.Plane.{Lent}
-use Rattle.passes.specs.Lifted.{inside}
+use Rattle.passes.specs.Lifted.{unheld}
 use Rattle.planes.specs.Plane.{view}
 use Rattle.planes.proofs.Bands.{fits-says}
-use Rattle.passes.proofs.Copied.{inside-says, out-fits, row-in-le, band-fits, band-copy}
+use Rattle.passes.proofs.Copied.{unheld-says, out-fits, row-in-le, band-fits, band-copy}
 use Rattle.passes.proofs.passes.pass_copied.Statement.{statement}
 use Rattle.passes.proofs.passes.pass_copied.Tie as tie
 
@@ -23,14 +23,14 @@ abbrev plane : tie.Start → Lent
 plane s = let a = s .args in view (a .pw) (a .ph) (a .stride) (a .k) (a .upper .now) (a .lower .now)
 
 -- both tests of the first branch
-in-x : (c : tie.Then1) → let a = entry c .args in inside (a .b) (a .w) (a .pw) ≡ true
-in-x c = let m = c .before in let l = m .before in sym (l .inside .ensures) ∙ and-both (l .inside .result) (m .inside2 .result) (c .if1 .taken) .0
+in-x : (c : tie.Then1) → let a = entry c .args in unheld (a .b) (a .w) (a .pw) ≡ true
+in-x c = let m = c .before in let l = m .before in sym (l .unheld .ensures) ∙ and-both (l .unheld .result) (m .unheld2 .result) (c .if1 .taken) .0
 
-in-y : (c : tie.Then1) → let a = entry c .args in inside (a .y0) (a .n) (a .ph) ≡ true
-in-y c = let m = c .before in let l = m .before in sym (m .inside2 .ensures) ∙ and-both (l .inside .result) (m .inside2 .result) (c .if1 .taken) .1
+in-y : (c : tie.Then1) → let a = entry c .args in unheld (a .y0) (a .n) (a .ph) ≡ true
+in-y c = let m = c .before in let l = m .before in sym (m .unheld2 .ensures) ∙ and-both (l .unheld .result) (m .unheld2 .result) (c .if1 .taken) .1
 
 from : (c : tie.Then1) → let a = entry c .args in (200003 ≤ a .b) × (200003 ≤ a .y0)
-from c = let a = entry c .args in (inside-says (a .b) (a .w) (a .pw) (in-x c) .0, inside-says (a .y0) (a .n) (a .ph) (in-y c) .0)
+from c = let a = entry c .args in (unheld-says (a .b) (a .w) (a .pw) (in-x c) .0, unheld-says (a .y0) (a .n) (a .ph) (in-y c) .0)
 
 -- no product of a row and the stride is large
 near : (c : tie.Then1) (e : ℕ) → let a = entry c .args in e ≤ a .y0 - 200003 → e * a .stride ≤ 200000 * 131072
@@ -38,11 +38,11 @@ near c e h =
     let s = entry c in
     mul-le-mul {n₂ = 200000} {m₂ = 131072} (omega (arith, h, s .pre .0)) (fits-says (plane s) (s .pre .1 .0) .near)
 
-inside-requires : tie.Need-inside-requires
-inside-requires c κs = let m = c .before .before .before in omega (arith, m .pre .0)
+unheld-requires : tie.Need-unheld-requires
+unheld-requires c κs = let m = c .before .before .before in omega (arith, m .pre .0)
 
-inside-requires-2 : tie.Need-inside-requires-2
-inside-requires-2 c κs = let m = c .before .before .before in omega (arith, m .before .pre .0)
+unheld-requires-2 : tie.Need-unheld-requires-2
+unheld-requires-2 c κs = let m = c .before .before .before in omega (arith, m .before .pre .0)
 
 sub-d : tie.Need-sub-d
 sub-d c = from c .0
@@ -120,8 +120,8 @@ pub pass-copied-spec : {M : Type 1} → statement M
 pass-copied-spec =
     tie.close
     (tie.spec
-    inside-requires
-    inside-requires-2
+    unheld-requires
+    unheld-requires-2
     sub-d
     sub-e
     whole-requires

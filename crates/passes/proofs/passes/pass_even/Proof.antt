@@ -12,10 +12,10 @@ use Rattle.base.proofs.Tests.{and-both}
 use Rattle.taps.specs.Taps.{tap}
 use Rattle.taps.proofs.Loops.{rows-paint}
 use Rattle.planes.specs.Plane.{Lent}
-use Rattle.passes.specs.Lifted.{inside}
+use Rattle.passes.specs.Lifted.{unheld}
 use Rattle.planes.specs.Plane.{view}
 use Rattle.planes.proofs.Bands.{fits-says, holds-row}
-use Rattle.passes.proofs.Copied.{inside-says, upper-fits, lower-fits, upper-at, lower-at, even-row}
+use Rattle.passes.proofs.Copied.{unheld-says, upper-fits, lower-fits, upper-at, lower-at, even-row}
 use Rattle.passes.proofs.passes.pass_even.Statement.{statement}
 use Rattle.passes.proofs.passes.pass_even.Tie as tie
 
@@ -26,16 +26,16 @@ abbrev plane : tie.Start → Lent
 plane s = let a = s .args in view (a .pw) (a .ph) (a .stride) (a .k) (a .upper .now) (a .lower .now)
 
 -- both tests of the first branch
-in-x : (c : tie.Then1) → let a = entry c .args in inside (a .start / 16) (a .w + 7) (a .pw) ≡ true
-in-x c = let m = c .before in let l = m .before in sym (l .inside .ensures) ∙ and-both (l .inside .result) (m .inside2 .result) (c .if1 .taken) .0
+in-x : (c : tie.Then1) → let a = entry c .args in unheld (a .start / 16) (a .w + 7) (a .pw) ≡ true
+in-x c = let m = c .before in let l = m .before in sym (l .unheld .ensures) ∙ and-both (l .unheld .result) (m .unheld2 .result) (c .if1 .taken) .0
 
-in-y : (c : tie.Then1) → let a = entry c .args in inside (a .y0) (a .n) (a .ph) ≡ true
-in-y c = let m = c .before in let l = m .before in sym (m .inside2 .ensures) ∙ and-both (l .inside .result) (m .inside2 .result) (c .if1 .taken) .1
+in-y : (c : tie.Then1) → let a = entry c .args in unheld (a .y0) (a .n) (a .ph) ≡ true
+in-y c = let m = c .before in let l = m .before in sym (m .unheld2 .ensures) ∙ and-both (l .unheld .result) (m .unheld2 .result) (c .if1 .taken) .1
 
 from : (c : tie.Then1) → let a = entry c .args in (200003 ≤ a .start / 16) × (200003 ≤ a .y0)
 from c =
     let a = entry c .args in
-    (inside-says (a .start / 16) (a .w + 7) (a .pw) (in-x c) .0, inside-says (a .y0) (a .n) (a .ph) (in-y c) .0)
+    (unheld-says (a .start / 16) (a .w + 7) (a .pw) (in-x c) .0, unheld-says (a .y0) (a .n) (a .ph) (in-y c) .0)
 
 -- no product of a row and the stride is large
 near : (c : tie.Then1) (e : ℕ) → let a = entry c .args in e ≤ a .y0 - 200003 → e * a .stride ≤ 200000 * 131072
@@ -49,14 +49,14 @@ in-room s =
     let a = s .args in
     holds-row (a .n) (a .rs) (a .w) (length (a .room .now)) (a .n - 1) (s .pre .1 .1 .1 .1) (omega (arith, s .pre .1 .1 .0))
 
-add-inside : tie.Need-add-inside
-add-inside c = search needs
+add-unheld : tie.Need-add-unheld
+add-unheld c = search needs
 
-inside-requires : tie.Need-inside-requires
-inside-requires c κs = search needs
+unheld-requires : tie.Need-unheld-requires
+unheld-requires c κs = search needs
 
-inside-requires-2 : tie.Need-inside-requires-2
-inside-requires-2 c κs = search needs
+unheld-requires-2 : tie.Need-unheld-requires-2
+unheld-requires-2 c κs = search needs
 
 sub-d : tie.Need-sub-d
 sub-d c = from c .0
@@ -153,9 +153,9 @@ pub pass-even-spec : {M : Type 1} → statement M
 pass-even-spec =
     tie.close
     (tie.spec
-    add-inside
-    inside-requires
-    inside-requires-2
+    add-unheld
+    unheld-requires
+    unheld-requires-2
     sub-d
     sub-e
     add-if2

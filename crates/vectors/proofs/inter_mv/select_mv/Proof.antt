@@ -7,7 +7,7 @@ use Rattle.base.specs.declared.units.Mv.{Mv}
 use Rattle.vectors.specs.Select.{selectMv, selectRows, chosen}
 use Rattle.vectors.specs.declared.inter_mv.SelectedMv.{SelectedMv}
 use Rattle.vectors.proofs.Accepted.{SelectOk, select-ok}
-use Rattle.selection.proofs.Parts.{legal-list, listOf-small}
+use Rattle.selection.proofs.Parts.{legal-list, list-number-small}
 use borrow.Author.Needs.{needs}
 use Rattle.vectors.proofs.inter_mv.select_mv.Statement.{statement}
 use Rattle.vectors.proofs.inter_mv.select_mv.Tie as tie
@@ -30,24 +30,24 @@ returns : tie.Need-returns
 unfolding selectMv
 returns c = let e = sym (c .before .select-refusal .ensures) in rw (e, ne-eqb _ _ (c .if1 .taken))
 
-list-of-requires : tie.Need-list-of-requires
-list-of-requires c κs = search needs
+list-number-requires : tie.Need-list-number-requires
+list-number-requires c κs = search needs
 
 chosen-requires : tie.Need-chosen-requires
 chosen-requires c κs =
     let e = c .before in
     let x = e .before .before .args in
     let a = accepted e in
-    rw (c .list-of .ensures .0) ((listOf-small (x .second), a .block), (a .partner, legal-list (x .mvs) (a .vectors) (x .second)))
+    rw (c .list-number .ensures .0) ((list-number-small (x .second), a .block), (a .partner, legal-list (x .mvs) (a .vectors) (x .second)))
 
 returns-2 : tie.Need-returns-2
 unfolding selectMv
 returns-2 c =
     let e = c .before .before in
     let x = e .before .before .args in
-    let list = ap (λ (l : ℕ). chosen (x .mvs) l (x .plane) (x .size) (x .block) (x .sx) (x .sy)) (c .before .list-of .ensures .0) in
+    let list = ap (λ (l : ℕ). chosen (x .mvs) l (x .plane) (x .size) (x .block) (x .sx) (x .sy)) (c .before .list-number .ensures .0) in
     rw (zero e) (same (c .chosen .ensures ∙ list))
 
 pub select-mv-spec : {M : Type 1} → statement M
 select-mv-spec =
-    tie.close (tie.spec select-refusal-requires returns list-of-requires chosen-requires returns-2)
+    tie.close (tie.spec select-refusal-requires returns list-number-requires chosen-requires returns-2)
