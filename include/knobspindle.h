@@ -56,12 +56,12 @@ enum knobspindle_frame {
     KNOBSPINDLE_FRAME_ALTREF = 3
 };
 
-/* A block's filter, in the order of the standard's table of taps. What a stream writes for a filter may be another number: go by the name. */
+/* A block's filter. What a stream writes for it may be another number: go by the name, or by the two middle taps at half a sample. */
 enum knobspindle_filter {
-    KNOBSPINDLE_FILTER_REGULAR = 0, /* EIGHTTAP */
-    KNOBSPINDLE_FILTER_SMOOTH = 1,  /* EIGHTTAP_SMOOTH */
-    KNOBSPINDLE_FILTER_SHARP = 2,   /* EIGHTTAP_SHARP */
-    KNOBSPINDLE_FILTER_BILINEAR = 3 /* BILINEAR */
+    KNOBSPINDLE_FILTER_REGULAR = 0, /* EIGHTTAP, 78 */
+    KNOBSPINDLE_FILTER_SMOOTH = 1,  /* EIGHTTAP_SMOOTH, 55 */
+    KNOBSPINDLE_FILTER_SHARP = 2,   /* EIGHTTAP_SHARP, 80 */
+    KNOBSPINDLE_FILTER_BILINEAR = 3 /* BILINEAR, 64 */
 };
 
 /* A block's size in luma samples, width before height. */
@@ -222,7 +222,7 @@ typedef struct {
  * the number of the 4x4 block in the plane. Answers 1 and 9 (components -32767..32767, of both lists). Below 8x8 a plane takes for its block
  *   luma, and chroma in 4:4:4   0, 1 above, 2, 3 below: the vector of that sub-block
  *   chroma in 4:2:0             0: the mean of all four
- *   chroma in 4:2:2             0 above: the mean of 0 and 1; 1 below: the mean of 1 and 2, as the standard has it
+ *   chroma in 4:2:2             0 above: the mean of 0 and 1; 1 below: the mean of 1 and 2, as the standard's decoders do
  *   chroma in 4:4:0             0 on the left: the mean of 0 and 2; 1 on the right: the mean of 1 and 3 */
 knobspindle_selected_mv knobspindle_select_mv(knobspindle_block_mvs of, bool second, size_t plane, uint8_t size, size_t block,
                                               bool subsampling_x, bool subsampling_y);

@@ -1,4 +1,4 @@
-//! The standard's numbers by name. The search's tables hold them as numbers: `Mode::New as u8`, `RefFrame::Last as i8`.
+//! Names of numbers. The search's tables hold the numbers themselves: `Mode::New as u8`, `RefFrame::Last as i8`.
 
 /// The mode of a block, as [`crate::Tables::modes`] has it: the standard's `y_mode`. A block below 8x8 has that of its last sub-block.
 #[derive(Clone, Copy, Debug, PartialEq, Eq, Hash)]
@@ -91,15 +91,15 @@ pub enum BlockSize {
     B64x64 = 12,
 }
 
-/// A block's filter, in the order of the standard's table of taps. What a stream writes for a filter may be another number: go by the name.
+/// A block's filter. What a stream writes for it may be another number: go by the name, or by the two middle taps at half a sample.
 #[derive(Clone, Copy, Debug, PartialEq, Eq, Hash)]
 pub enum Filter {
-    /// `EIGHTTAP`
+    /// `EIGHTTAP`, 78
     Regular = 0,
-    /// `EIGHTTAP_SMOOTH`
+    /// `EIGHTTAP_SMOOTH`, 55
     Smooth = 1,
-    /// `EIGHTTAP_SHARP`
+    /// `EIGHTTAP_SHARP`, 80
     Sharp = 2,
-    /// `BILINEAR`
+    /// `BILINEAR`, 64
     Bilinear = 3,
 }

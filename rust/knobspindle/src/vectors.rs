@@ -165,7 +165,7 @@ pub struct MvRefs {
 /// |---|---|---|
 /// | luma, and chroma in 4:4:4 | 0, 1 above, 2, 3 below | of that sub-block |
 /// | chroma in 4:2:0 | 0 | the mean of all four |
-/// | chroma in 4:2:2 | 0 above, 1 below | the mean of 0 and 1; the mean of 1 and 2, as the standard has it |
+/// | chroma in 4:2:2 | 0 above, 1 below | the mean of 0 and 1; the mean of 1 and 2, as the standard's decoders do |
 /// | chroma in 4:4:0 | 0 on the left, 1 on the right | the mean of 0 and 2; the mean of 1 and 3 |
 ///
 /// # Errors

@@ -59,7 +59,7 @@ pub fn numbers() {
     let all = modes.into_iter().chain([Mode::Nearest, Mode::Near, Mode::Zero, Mode::New]);
     assert!(all.map(|mode| mode as u8).eq(0..14));
 
-    // the block below and right of two neighbours; what is unused in the left one's list 1 stands in its last two numbers
+    // what the block below and right of two neighbours finds; the left one has `unused` in its list 1, which has no frame
     let between = |above: Mode, left: Mode, frame: RefFrame, target: RefFrame, unused: i16| {
         let cells = [Mode::Dc, above, left, Mode::Dc];
         let inter = cells.map(|mode| mode as u8 >= Mode::Nearest as u8);
