@@ -2,7 +2,8 @@
  *
  * Every call takes any input. It answers with a number: 0 where the input is accepted, else the lowest number below whose row applies.
  * Refused, a call returns zeros beside its answer and changes no buffer that was lent to it. No call allocates, keeps a pointer, or has
- * state of its own, so calls may run in any number of threads. A bool is C's own: 0 or 1 and no other byte.
+ * state of its own, so calls may run in any number of threads, where no out or room of one is lent to another at the time.
+ * A bool is C's own: 0 or 1 and no other byte. docs/HOST.md is the guide, with an example.
  */
 #ifndef KNOBSPINDLE_H
 #define KNOBSPINDLE_H
@@ -28,6 +29,58 @@ enum knobspindle_answer {
     KNOBSPINDLE_VECTOR = 9  /* a vector handed in has a component out of range */
 };
 
+/* The mode of a block, as the search's table of modes has it: the standard's y_mode. A block below 8x8 has that of its last sub-block. */
+enum knobspindle_mode {
+    KNOBSPINDLE_MODE_DC = 0, /* 0 to 9 are the intra modes */
+    KNOBSPINDLE_MODE_V = 1,
+    KNOBSPINDLE_MODE_H = 2,
+    KNOBSPINDLE_MODE_D45 = 3,
+    KNOBSPINDLE_MODE_D135 = 4,
+    KNOBSPINDLE_MODE_D117 = 5,
+    KNOBSPINDLE_MODE_D153 = 6,
+    KNOBSPINDLE_MODE_D207 = 7,
+    KNOBSPINDLE_MODE_D63 = 8,
+    KNOBSPINDLE_MODE_TM = 9,
+    KNOBSPINDLE_MODE_NEAREST = 10, /* 10 to 13 are the inter modes */
+    KNOBSPINDLE_MODE_NEAR = 11,
+    KNOBSPINDLE_MODE_ZERO = 12,
+    KNOBSPINDLE_MODE_NEW = 13
+};
+
+/* A reference frame, as the search's tables have it: an intra block has INTRA and NONE, an inter block with one reference that one and NONE. */
+enum knobspindle_frame {
+    KNOBSPINDLE_FRAME_NONE = -1,
+    KNOBSPINDLE_FRAME_INTRA = 0,
+    KNOBSPINDLE_FRAME_LAST = 1,
+    KNOBSPINDLE_FRAME_GOLDEN = 2,
+    KNOBSPINDLE_FRAME_ALTREF = 3
+};
+
+/* A block's filter. What a stream writes for it may be another number: go by the name, or by the two middle taps at half a sample. */
+enum knobspindle_filter {
+    KNOBSPINDLE_FILTER_REGULAR = 0, /* EIGHTTAP, 78 */
+    KNOBSPINDLE_FILTER_SMOOTH = 1,  /* EIGHTTAP_SMOOTH, 55 */
+    KNOBSPINDLE_FILTER_SHARP = 2,   /* EIGHTTAP_SHARP, 80 */
+    KNOBSPINDLE_FILTER_BILINEAR = 3 /* BILINEAR, 64 */
+};
+
+/* A block's size in luma samples, width before height. */
+enum knobspindle_block_size {
+    KNOBSPINDLE_BLOCK_4X4 = 0,
+    KNOBSPINDLE_BLOCK_4X8 = 1,
+    KNOBSPINDLE_BLOCK_8X4 = 2,
+    KNOBSPINDLE_BLOCK_8X8 = 3,
+    KNOBSPINDLE_BLOCK_8X16 = 4,
+    KNOBSPINDLE_BLOCK_16X8 = 5,
+    KNOBSPINDLE_BLOCK_16X16 = 6,
+    KNOBSPINDLE_BLOCK_16X32 = 7,
+    KNOBSPINDLE_BLOCK_32X16 = 8,
+    KNOBSPINDLE_BLOCK_32X32 = 9,
+    KNOBSPINDLE_BLOCK_32X64 = 10,
+    KNOBSPINDLE_BLOCK_64X32 = 11,
+    KNOBSPINDLE_BLOCK_64X64 = 12
+};
+
 /* A vector in eighths of a luma sample: what blocks and candidates have. */
 typedef struct {
     int32_t row, col;
@@ -38,12 +91,13 @@ typedef struct {
     int32_t row, col;
 } knobspindle_plane_mv;
 
-/* A block's vectors: sub-blocks 0..3 of each list. */
+/* A block's vectors: sub-blocks 0..3 of each list. A block that is not below 8x8 has its vector four times; a list that is not used has zeros. */
 typedef struct {
     knobspindle_mv list0[4], list1[4];
 } knobspindle_block_mvs;
 
-/* Where a block stands, in cells of 8 by 8 luma samples; mi_size is the standard's block size 0..12. */
+/* Where a block stands, in cells of 8 by 8 luma samples; mi_size is a knobspindle_block_size, the standard's 0..12. A frame has
+ * mi_cols = (width + 7) / 8 cells across and mi_rows = (height + 7) / 8 down. */
 typedef struct {
     int32_t mi_row, mi_col, mi_rows, mi_cols;
     uint8_t mi_size;
@@ -71,8 +125,8 @@ typedef struct {
     int32_t start_x, start_y, step_x, step_y;
 } knobspindle_scaled_mv;
 
-/* A block: its size in samples (1..64 each), the filter (0 regular, 1 smooth, 2 sharp, 3 bilinear), the bit depth (8, 10 or 12), and
- * whether the predictions from two references are averaged. */
+/* A block: its size in samples (1..64 each), its knobspindle_filter, the bit depth (8, 10 or 12), and whether the predictions from two
+ * references are averaged. */
 typedef struct {
     size_t w, h, filter;
     uint32_t depth;
@@ -80,7 +134,8 @@ typedef struct {
 } knobspindle_block_shape;
 
 /* A reference plane, lent in two bands with one stride: the upper one holds rows 0..upper_rows-1, the lower the rest. A band of k rows
- * holds (k - 1) x stride + width samples or more, or none if k is 0. A plane in one piece: upper_rows = height, and NULL, 0 below. */
+ * holds (k - 1) x stride + width samples or more, or none if k is 0. A plane in one piece: upper_rows = height, and NULL, 0 below.
+ * width and height are the visible ones (below, at knobspindle_ref_geom): beyond them every position is held at the edge. */
 typedef struct {
     int32_t width, height;
     size_t stride, upper_rows;
@@ -127,8 +182,10 @@ typedef struct {
     knobspindle_mv first, second;
 } knobspindle_mv_pair;
 
-/* A block for the whole prediction: the plane (0 luma, 1 and 2 chroma), the block's first sample there, its size in samples (1..64 each), the
- * sub-block 0..3 (0 where the block is not below 8x8), then as in knobspindle_block_shape. */
+/* A block for the whole prediction: the plane (0 luma, 1 and 2 chroma), the block's first sample there, its size in samples (1..64 each), its
+ * number, then as in knobspindle_block_shape. The number is 0 where the block is not below 8x8. Of a block below 8x8 every plane is predicted in
+ * blocks of 4x4, and the number counts these in the plane: 0, 1, .. row by row. So in 4:2:2 chroma the lower one is number 1, and 2 is accepted
+ * and gives a wrong picture (at knobspindle_select_mv). */
 typedef struct {
     size_t plane;
     int32_t x, y;
@@ -137,20 +194,23 @@ typedef struct {
     bool average;
 } knobspindle_inter_pred_args;
 
-/* The frame's size in luma samples, and whether chroma is halved across and down, of the frame and of its references. */
+/* The frame's visible size in luma samples, and whether chroma is halved across and down, of the frame and of its references. */
 typedef struct {
     int32_t width, height;
     bool subsampling_x, subsampling_y;
 } knobspindle_frame_geom;
 
-/* A reference of the whole prediction: its frame's size in luma samples. The plane that is lent has that size, or for chroma, where halved, half
- * of it rounded up; stride and bands as in knobspindle_plane_geom. */
+/* A reference of the whole prediction: its frame's VISIBLE size in luma samples. The plane that is lent has that size, or for chroma, where
+ * halved, half of it rounded up; stride and bands as in knobspindle_plane_geom. Beyond the visible edge every position is held at it, whatever
+ * stands in memory there. A frame of 35 x 21 in 4:2:0 is lent as 35 x 21 and its chroma as 18 x 11, with the stride that it was decoded with. */
 typedef struct {
     int32_t frame_width, frame_height;
     size_t stride, upper_rows;
 } knobspindle_ref_geom;
 
-/* The destination plane's size in samples (1..65536 each); its stride is its width. */
+/* The destination plane's size in samples (1..65536 each); its stride is its width. It has to be the DECODED size: whole cells, 8 x mi_cols by
+ * 8 x mi_rows, for chroma, where halved, half of it. A frame of 35 x 21 in 4:2:0 has a destination of 40 x 24, its chroma one of 20 x 12. The
+ * visible size is accepted, too, but then the samples beyond it are not written, and intra prediction, which reads them, draws a wrong picture. */
 typedef struct {
     size_t width, height;
 } knobspindle_dest_geom;
@@ -158,8 +218,12 @@ typedef struct {
 /* Numbers of working room that knobspindle_block_inter_predict and knobspindle_predict_inter ask for. */
 #define KNOBSPINDLE_ROOM 8576
 
-/* The vector that a plane (0 luma, 1 and 2 chroma) takes from list 0, or from list 1 where second is true. size is the block size 0..12,
- * block the sub-block 0..3. Answers 1 and 9 (components -32767..32767, of both lists). */
+/* The vector that a plane (0 luma, 1 and 2 chroma) takes from list 0, or from list 1 where second is true. size is the block size 0..12, block
+ * the number of the 4x4 block in the plane. Answers 1 and 9 (components -32767..32767, of both lists). Below 8x8 a plane takes for its block
+ *   luma, and chroma in 4:4:4   0, 1 above, 2, 3 below: the vector of that sub-block
+ *   chroma in 4:2:0             0: the mean of all four
+ *   chroma in 4:2:2             0 above: the mean of 0 and 1; 1 below: the mean of 1 and 2, as the standard's decoders do
+ *   chroma in 4:4:0             0 on the left: the mean of 0 and 2; 1 on the right: the mean of 1 and 3 */
 knobspindle_selected_mv knobspindle_select_mv(knobspindle_block_mvs of, bool second, size_t plane, uint8_t size, size_t block,
                                               bool subsampling_x, bool subsampling_y);
 
@@ -171,9 +235,11 @@ knobspindle_clamped_mv knobspindle_clamp_mv(knobspindle_block_grid grid, knobspi
 knobspindle_scaled_mv knobspindle_scale_mv(knobspindle_scale_geom geom, size_t plane, int32_t x, int32_t y, knobspindle_plane_mv mv);
 
 /* The candidate search for a target reference frame 1..3: block is -1 for a whole block, else its sub-block 0..3. The tables lie by cells
- * of the frame, i = row x mi_cols + column, n = mi_rows x mi_cols: modes n; frames 2n, at 2i + list; mvs 4n, row before column; subs 16n, at
- * ((2i + list) x 4 + sub-block) x 2; prev_frames and prev_mvs as frames and mvs, looked at only where use_prev is true. Lengths count
- * numbers; longer tables are taken. Answers 1, 2, 3, 7 and 8. */
+ * of the frame, i = row x mi_cols + column, n = mi_rows x mi_cols: modes n (knobspindle_mode); frames 2n, at 2i + list (knobspindle_frame); mvs
+ * 4n, at (2i + list) x 2, row before column, for a block below 8x8 the vector of sub-block 3; subs 16n, at ((2i + list) x 4 + sub-block) x 2,
+ * for a block that is not below 8x8 its vector four times; prev_frames and prev_mvs as frames and mvs, looked at only where use_prev is true.
+ * The vectors of an unused list are judged, too: write zeros there, or what a decoder left may be answer 8. Lengths count numbers; longer
+ * tables are taken. Answers 1, 2, 3, 7 and 8. */
 knobspindle_mv_refs knobspindle_find_mv_refs(const uint8_t *modes, size_t modes_len, const int8_t *frames, size_t frames_len,
                                              const int16_t *mvs, size_t mvs_len, const int16_t *subs, size_t subs_len,
                                              const int8_t *prev_frames, size_t prev_frames_len, const int16_t *prev_mvs,

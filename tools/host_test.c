@@ -38,6 +38,38 @@ static void select_mv(void)
     check("select, list 1 out of range: answer", r.answer, KNOBSPINDLE_VECTOR);
 }
 
+/* docs/HOST.md, 'Blocks below 8x8': a check for each row of its table. The rows' means show which vectors were taken. */
+static void below_8x8(void)
+{
+    static const knobspindle_block_mvs of = {
+        .list0 = {{0, 2}, {40, 20}, {400, 200}, {4000, 2000}},
+        .list1 = {{1, 1}, {1, 1}, {1, 1}, {1, 1}},
+    };
+    static const struct {
+        size_t plane;
+        bool half_x, half_y;
+        size_t block;
+        int32_t row, col;
+    } table[] = {
+        {0, true, true, 0, 0, 2},        {0, true, true, 1, 40, 20},      {0, true, true, 2, 400, 200}, {0, true, true, 3, 4000, 2000},
+        {1, true, true, 0, 1110, 556},                                                                  /* 4440 / 4 and 2222 / 4 */
+        {1, true, false, 0, 20, 11},     {1, true, false, 1, 220, 110},                                 /* 0 and 1; 1 and 2 */
+        {1, false, true, 0, 200, 101},   {1, false, true, 1, 2020, 1010},                               /* 0 and 2; 1 and 3 */
+        {1, false, false, 0, 0, 2},      {1, false, false, 1, 40, 20},    {1, false, false, 2, 400, 200}, {1, false, false, 3, 4000, 2000},
+    };
+    for (size_t i = 0; i < sizeof table / sizeof *table; i++)
+        for (uint8_t size = KNOBSPINDLE_BLOCK_4X4; size < KNOBSPINDLE_BLOCK_8X8; size++) {
+            knobspindle_selected_mv r = knobspindle_select_mv(of, false, table[i].plane, size, table[i].block, table[i].half_x, table[i].half_y);
+            check("below 8x8: answer", r.answer, KNOBSPINDLE_ACCEPTED);
+            check("below 8x8: row", r.mv.row, table[i].row);
+            check("below 8x8: column", r.mv.col, table[i].col);
+        }
+    /* 4:2:2 with number 2 for the lower block: accepted, and another vector */
+    knobspindle_selected_mv r = knobspindle_select_mv(of, false, 1, KNOBSPINDLE_BLOCK_4X4, 2, true, false);
+    check("below 8x8, 4:2:2, number 2: answer", r.answer, KNOBSPINDLE_ACCEPTED);
+    check("below 8x8, 4:2:2, number 2: row", r.mv.row, 2200);
+}
+
 static void clamp_mv(void)
 {
     knobspindle_block_grid grid = {.mi_row = 0, .mi_col = 3, .mi_rows = 4, .mi_cols = 5, .mi_size = 3};
@@ -99,6 +131,77 @@ static void find_mv_refs(void)
     check("search, target 0: answer", r.answer, KNOBSPINDLE_TARGET);
 }
 
+/* the context of a block whose neighbours above and on the left have these modes; their frames and vectors as a decoder would write them */
+static knobspindle_mv_refs between(uint8_t above, uint8_t left, int8_t frame, int32_t target, int16_t unused)
+{
+    uint8_t modes[4] = {KNOBSPINDLE_MODE_DC, above, left, KNOBSPINDLE_MODE_DC};
+    int8_t frames[8];
+    int16_t mvs[16] = {0}, subs[64] = {0};
+    for (int i = 0; i < 4; i++) {
+        bool inter = modes[i] >= KNOBSPINDLE_MODE_NEAREST;
+        frames[2 * i] = inter ? frame : KNOBSPINDLE_FRAME_INTRA;
+        frames[2 * i + 1] = KNOBSPINDLE_FRAME_NONE;
+        mvs[4 * i] = inter ? 16 : 0;
+        for (int b = 0; b < 4; b++)
+            subs[16 * i + 2 * b] = inter ? 16 : 0;
+    }
+    mvs[4 * 2 + 2] = unused; /* list 1 on the left */
+    knobspindle_mv_ref_geometry g = {.mi_row = 1, .mi_col = 1, .mi_rows = 2, .mi_cols = 2, .mi_size = KNOBSPINDLE_BLOCK_8X8, .mi_col_end = 2};
+    return knobspindle_find_mv_refs(modes, 4, frames, 8, mvs, 16, subs, 64, NULL, 0, NULL, 0, g, target, -1,
+                                    (knobspindle_sign_bias){{false, false, false, false}}, false);
+}
+
+static void modes_and_frames(void)
+{
+    /* document 01: contexts of two modes; intra modes are alike, and so are nearest and near */
+    enum { Z = KNOBSPINDLE_MODE_ZERO, NEW = KNOBSPINDLE_MODE_NEW, LAST = KNOBSPINDLE_FRAME_LAST };
+    check("modes, zero and zero: context", between(Z, Z, LAST, LAST, 0).context, 0);
+    check("modes, zero and new: context", between(Z, NEW, LAST, LAST, 0).context, 3);
+    check("modes, new and new: context", between(NEW, NEW, LAST, LAST, 0).context, 4);
+    for (uint8_t mode = KNOBSPINDLE_MODE_DC; mode <= KNOBSPINDLE_MODE_TM; mode++)
+        check("modes, intra and new: context", between(mode, NEW, LAST, LAST, 0).context, 5);
+    for (uint8_t mode = KNOBSPINDLE_MODE_NEAREST; mode <= KNOBSPINDLE_MODE_NEAR; mode++)
+        check("modes, zero and nearest or near: context", between(Z, mode, LAST, LAST, 0).context, 1);
+    /* the constants are the standard's numbers */
+    static const int modes[14] = {KNOBSPINDLE_MODE_DC,   KNOBSPINDLE_MODE_V,    KNOBSPINDLE_MODE_H,       KNOBSPINDLE_MODE_D45,  KNOBSPINDLE_MODE_D135,
+                                  KNOBSPINDLE_MODE_D117, KNOBSPINDLE_MODE_D153, KNOBSPINDLE_MODE_D207,    KNOBSPINDLE_MODE_D63,  KNOBSPINDLE_MODE_TM,
+                                  KNOBSPINDLE_MODE_NEAREST, KNOBSPINDLE_MODE_NEAR, KNOBSPINDLE_MODE_ZERO, KNOBSPINDLE_MODE_NEW};
+    for (int i = 0; i < 14; i++)
+        check("modes: number", modes[i], i);
+
+    static const int8_t targets[3] = {KNOBSPINDLE_FRAME_LAST, KNOBSPINDLE_FRAME_GOLDEN, KNOBSPINDLE_FRAME_ALTREF};
+    for (int i = 0; i < 3; i++) {
+        knobspindle_mv_refs r = between(Z, NEW, targets[i], targets[i], 0);
+        check("frames, target: number", targets[i], i + 1);
+        check("frames, target: answer", r.answer, KNOBSPINDLE_ACCEPTED);
+        check("frames, target: first row", r.first.row, 16);
+    }
+    check("frames, intra as target: answer", between(Z, NEW, LAST, KNOBSPINDLE_FRAME_INTRA, 0).answer, KNOBSPINDLE_TARGET);
+    check("frames, none as target: answer", between(Z, NEW, LAST, KNOBSPINDLE_FRAME_NONE, 0).answer, KNOBSPINDLE_TARGET);
+    check("frames, rubbish in an unused list: answer", between(Z, NEW, LAST, LAST, -32768).answer, KNOBSPINDLE_RECORD);
+}
+
+/* what a size's name says, in cells, shows in how far the clamp lets a vector go: 4 samples and the block itself beyond the frame */
+static void block_sizes(void)
+{
+    static const struct {
+        uint8_t size;
+        int32_t across, down;
+    } table[13] = {
+        {KNOBSPINDLE_BLOCK_4X4, 1, 1},   {KNOBSPINDLE_BLOCK_4X8, 1, 1},   {KNOBSPINDLE_BLOCK_8X4, 1, 1},   {KNOBSPINDLE_BLOCK_8X8, 1, 1},
+        {KNOBSPINDLE_BLOCK_8X16, 1, 2},  {KNOBSPINDLE_BLOCK_16X8, 2, 1},  {KNOBSPINDLE_BLOCK_16X16, 2, 2}, {KNOBSPINDLE_BLOCK_16X32, 2, 4},
+        {KNOBSPINDLE_BLOCK_32X16, 4, 2}, {KNOBSPINDLE_BLOCK_32X32, 4, 4}, {KNOBSPINDLE_BLOCK_32X64, 4, 8}, {KNOBSPINDLE_BLOCK_64X32, 8, 4},
+        {KNOBSPINDLE_BLOCK_64X64, 8, 8},
+    };
+    for (int i = 0; i < 13; i++) {
+        knobspindle_block_grid grid = {.mi_rows = 16, .mi_cols = 16, .mi_size = table[i].size};
+        knobspindle_clamped_mv r = knobspindle_clamp_mv(grid, (knobspindle_mv){-32767, -32767}, 0, true, true);
+        check("sizes: number", table[i].size, i);
+        check("sizes: width", r.mv.col, -(4 + 8 * table[i].across) * 16);
+        check("sizes: height", r.mv.row, -(4 + 8 * table[i].down) * 16);
+    }
+}
+
 static void row_read(void)
 {
     static const uint16_t upper[8], lower[7];
@@ -156,6 +259,33 @@ static void block_inter_predict(void)
     check("block, depth 9: answer", answer, KNOBSPINDLE_FILTER);
 }
 
+/* each filter by its name: a lone sample, half a sample on, shows the taps of phase 8 one by one, the last first */
+static void filters(void)
+{
+    static const struct {
+        size_t filter;
+        int taps[8];
+    } table[4] = {
+        {KNOBSPINDLE_FILTER_REGULAR, {-1, 6, -19, 78, 78, -19, 6, -1}},
+        {KNOBSPINDLE_FILTER_SMOOTH, {-1, -4, 14, 55, 55, 14, -4, -1}},
+        {KNOBSPINDLE_FILTER_SHARP, {-4, 11, -23, 80, 80, -23, 11, -4}},
+        {KNOBSPINDLE_FILTER_BILINEAR, {0, 0, 0, 64, 64, 0, 0, 0}},
+    };
+    static uint16_t row[16], room[KNOBSPINDLE_ROOM], out[16];
+    for (int i = 0; i < 16; i++)
+        row[i] = i == 8 ? 192 : 64;
+    knobspindle_plane_geom geom = {.width = 16, .height = 1, .stride = 16, .upper_rows = 1}, none = {0, 0, 0, 0};
+    knobspindle_stepping from = {.start_x = 8, .start_y = 0, .step_x = 16, .step_y = 16}, nowhere = {0, 0, 0, 0};
+    for (int i = 0; i < 4; i++) {
+        knobspindle_block_shape shape = {.w = 16, .h = 1, .filter = table[i].filter, .depth = 8, .average = false};
+        uint32_t answer = knobspindle_block_inter_predict(shape, geom, from, row, 16, NULL, 0, none, nowhere, NULL, 0, NULL, 0, room,
+                                                          KNOBSPINDLE_ROOM, out, 16, 16);
+        check("filters: answer", answer, KNOBSPINDLE_ACCEPTED);
+        for (int t = 0; t < 8; t++)
+            check("filters: tap", out[11 - t] - 64, table[i].taps[t]);
+    }
+}
+
 /* a frame of one cell, 8 by 8, as the whole prediction wants it; sample (row r, column c) of its reference is 10c + r */
 static uint16_t tens[64], nothing[64], room[KNOBSPINDLE_ROOM], dest[64];
 
@@ -204,6 +334,42 @@ static void predict_inter(void)
     check("whole, list 1 out of range: answer", whole(args, half, 4, size), KNOBSPINDLE_VECTOR);
     args.block = 4;
     check("whole, sub-block 4: answer", whole(args, half, 3, size), KNOBSPINDLE_BLOCK);
+}
+
+/* docs/HOST.md, 'Two sizes': a frame of 35 by 21 in 4:2:0. Sample (row r, column c) of a reference is 4c + r; the block is the last cell, zero vector. */
+static void two_sizes(void)
+{
+    static const struct {
+        size_t plane, width, height, across, down; /* visible and decoded */
+    } table[2] = {{0, 35, 21, 40, 24}, {1, 18, 11, 20, 12}};
+    static uint16_t reference[35 * 21], out[40 * 24];
+    knobspindle_block_grid grid = {.mi_row = 2, .mi_col = 4, .mi_rows = 3, .mi_cols = 5, .mi_size = KNOBSPINDLE_BLOCK_8X8};
+    knobspindle_frame_geom frame = {.width = 35, .height = 21, .subsampling_x = true, .subsampling_y = true};
+    knobspindle_block_mvs still = {.list0 = {{0, 0}}};
+    for (int i = 0; i < 2; i++) {
+        size_t width = table[i].width, n = width * table[i].height, across = table[i].across, last = across * table[i].down - 1, cell = 8 >> i;
+        knobspindle_inter_pred_args args = {.plane = table[i].plane, .x = (int32_t)(4 * cell), .y = (int32_t)(2 * cell), .w = cell, .h = cell, .depth = 8};
+        knobspindle_ref_geom geom = {.frame_width = 35, .frame_height = 21, .stride = width, .upper_rows = table[i].height}, none = {0, 0, 0, 0};
+        knobspindle_dest_geom decoded = {across, table[i].down}, visible = {width, table[i].height};
+        for (size_t k = 0; k < n; k++)
+            reference[k] = (uint16_t)(4 * (k % width) + k / width);
+        for (size_t k = 0; k <= last; k++)
+            out[k] = 999;
+        uint32_t answer = knobspindle_predict_inter(args, grid, frame, still, geom, reference, n, NULL, 0, none, NULL, 0, NULL, 0, room,
+                                                    KNOBSPINDLE_ROOM, out, last + 1, decoded);
+        check("two sizes: answer", answer, KNOBSPINDLE_ACCEPTED);
+        check("two sizes: the block's first", out[2 * cell * across + 4 * cell], (long long)(16 * cell + 2 * cell));
+        check("two sizes: before it", out[2 * cell * across + 4 * cell - 1], 999);
+        check("two sizes: last of all, held at the visible edge", out[last], (long long)(4 * (width - 1) + table[i].height - 1));
+        answer = knobspindle_predict_inter(args, grid, frame, still, geom, reference, n - 1, NULL, 0, none, NULL, 0, NULL, 0, room,
+                                           KNOBSPINDLE_ROOM, out, last + 1, decoded);
+        check("two sizes, a sample of the visible size missing: answer", answer, KNOBSPINDLE_SHORT);
+        out[last] = 999;
+        answer = knobspindle_predict_inter(args, grid, frame, still, geom, reference, n, NULL, 0, none, NULL, 0, NULL, 0, room,
+                                           KNOBSPINDLE_ROOM, out, n, visible);
+        check("two sizes, a destination of the visible size: answer", answer, KNOBSPINDLE_ACCEPTED);
+        check("two sizes, a destination of the visible size: last of all", out[last], 999);
+    }
 }
 
 /* a block of 13 by 9 samples cut into three rectangles, and its plane of 16 by 16 parted at every row: the samples of the uncut block */
@@ -268,12 +434,17 @@ int main(void)
 {
     append_and_best();
     select_mv();
+    below_8x8();
     clamp_mv();
+    block_sizes();
     scale_mv();
     find_mv_refs();
+    modes_and_frames();
     row_read();
     block_inter_predict();
+    filters();
     predict_inter();
+    two_sizes();
     cut();
     printf("host: %d checks, %d failed\n", checks, failed);
     return failed != 0;

@@ -14,12 +14,14 @@
 //! ```
 
 mod error;
+mod numbers;
 mod raw;
 mod samples;
 mod vectors;
 
 pub use error::Error;
-pub use samples::{block_inter_predict, predict_inter, BlockShape, Dest, Filter, FrameGeom, InterPred, Plane, Reference, Room, Source, ROOM};
+pub use numbers::{BlockSize, Filter, Mode, RefFrame};
+pub use samples::{block_inter_predict, predict_inter, BlockShape, Dest, FrameGeom, InterPred, Plane, Reference, Room, Source, ROOM};
 pub use vectors::{
     append_sub8x8_mvs, clamp_mv, find_best_ref_mvs, find_mv_refs, scale_mv, select_mv, BlockGrid, BlockMvs, List, Mv, MvRefs, Place, PlaneMv,
     Previous, ScaleGeom, Stepping, Subsampling, Tables,

@@ -1,10 +1,11 @@
 //! The calls on samples.
 
 use crate::error::judged;
-use crate::{raw, BlockGrid, BlockMvs, Error, Stepping};
+use crate::{raw, BlockGrid, BlockMvs, Error, Filter, Stepping};
 
 /// A reference plane, lent in two bands with one stride: the upper one has rows 0 to `upper_rows` - 1, the lower one the rest. A band of k rows
-/// holds (k - 1) x stride + width samples or more, or none if k is 0.
+/// holds (k - 1) x stride + width samples or more, or none if k is 0. Width and height are the visible ones (see [`Reference`]): beyond them every
+/// position is held at the edge.
 #[derive(Clone, Copy, Debug)]
 pub struct Plane<'a> {
     /// Samples of a row.
@@ -52,19 +53,6 @@ impl<'a> Plane<'a> {
         let band = if r.band == 0 { self.upper } else { self.lower };
         judged(r.answer, &band[r.first..r.first + r.samples])
     }
-}
-
-/// The interpolation filter.
-#[derive(Clone, Copy, Debug, PartialEq, Eq, Hash)]
-pub enum Filter {
-    /// 0
-    Regular = 0,
-    /// 1
-    Smooth = 1,
-    /// 2
-    Sharp = 2,
-    /// 3
-    Bilinear = 3,
 }
 
 /// A block's size in samples (1..=64 each), its filter and the bit depth (8, 10 or 12).
@@ -176,13 +164,14 @@ pub struct InterPred {
     pub x: i32,
     /// The block's first row in the plane, 0..=65535.
     pub y: i32,
-    /// The sub-block 0..=3; 0 where the block is not below 8x8.
+    /// 0 where the block is not below 8x8. Of a block below 8x8 every plane is predicted in blocks of 4x4, and this counts them in the plane, row
+    /// by row: see [`crate::select_mv`].
     pub block: usize,
     /// Size, filter and depth.
     pub shape: BlockShape,
 }
 
-/// The frame's size in luma samples, and whether chroma is halved, of the frame and of its references.
+/// The frame's visible size in luma samples, and whether chroma is halved, of the frame and of its references.
 #[derive(Clone, Copy, Debug, Default, PartialEq, Eq, Hash)]
 #[repr(C)]
 pub struct FrameGeom {
@@ -196,8 +185,9 @@ pub struct FrameGeom {
     pub subsampling_y: bool,
 }
 
-/// A reference of the whole prediction: its frame's size in luma samples, and the plane that is lent, which has that size or, for chroma where
-/// halved, half of it rounded up; stride and bands as in [`Plane`].
+/// A reference of the whole prediction: its frame's visible size in luma samples, and the plane that is lent, which has that size or, for chroma
+/// where halved, half of it rounded up; stride and bands as in [`Plane`]. Beyond the visible edge every position is held at it, whatever stands in
+/// memory there. A frame of 35 x 21 in 4:2:0 is lent as 35 x 21 and its chroma as 18 x 11, with the stride that it was decoded with.
 #[derive(Clone, Copy, Debug)]
 pub struct Reference<'a> {
     /// The reference frame's width.
@@ -222,7 +212,9 @@ impl Reference<'_> {
 
 const NO_REFERENCE: Reference<'static> = Reference { frame_width: 0, frame_height: 0, stride: 0, upper_rows: 0, upper: &[], lower: &[] };
 
-/// The plane that a prediction is written into. Its stride is its width.
+/// The plane that a prediction is written into. Its stride is its width. It has to be the decoded size: whole cells, 8 x `mi_cols` by 8 x `mi_rows`,
+/// for chroma, where halved, half of it. A frame of 35 x 21 in 4:2:0 has a destination of 40 x 24, its chroma one of 20 x 12. The visible size is
+/// accepted, too, but then the samples beyond it are not written, and intra prediction, which reads them, draws a wrong picture.
 #[derive(Debug)]
 pub struct Dest<'a> {
     /// width x height samples or more.

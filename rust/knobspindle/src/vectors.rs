@@ -23,7 +23,7 @@ pub struct PlaneMv {
     pub col: i32,
 }
 
-/// A block's vectors: sub-blocks 0 to 3 of each list. A block that is not below 8x8 has its vector four times.
+/// A block's vectors: sub-blocks 0 to 3 of each list. A block that is not below 8x8 has its vector four times; a list that is not used has zeros.
 #[derive(Clone, Copy, Debug, Default, PartialEq, Eq, Hash)]
 #[repr(C)]
 pub struct BlockMvs {
@@ -51,7 +51,7 @@ pub struct Subsampling {
     pub y: bool,
 }
 
-/// Where a block stands in its frame, in cells of 8 by 8 luma samples.
+/// Where a block stands in its frame, in cells of 8 by 8 luma samples: a frame has (width + 7) / 8 across and (height + 7) / 8 down.
 #[derive(Clone, Copy, Debug, Default, PartialEq, Eq, Hash)]
 #[repr(C)]
 pub struct BlockGrid {
@@ -63,7 +63,7 @@ pub struct BlockGrid {
     pub mi_rows: i32,
     /// The frame's columns of cells, 1..=8192.
     pub mi_cols: i32,
-    /// The standard's block size 0..=12.
+    /// The standard's block size 0..=12: a [`crate::BlockSize`] as a number.
     pub mi_size: u8,
 }
 
@@ -123,16 +123,17 @@ impl Place {
     }
 }
 
-/// What earlier blocks of the frame decided, by cells i = row x `mi_cols` + column; n is `mi_rows` x `mi_cols`. Longer tables are taken.
+/// What earlier blocks of the frame decided, by cells i = row x `mi_cols` + column; n is `mi_rows` x `mi_cols`. Longer tables are taken. The vectors
+/// of an unused list are judged, too: zeros belong there.
 #[derive(Clone, Copy, Debug)]
 pub struct Tables<'a> {
-    /// Prediction modes 0..=13: n.
+    /// Prediction modes 0..=13 ([`crate::Mode`] as numbers): n.
     pub modes: &'a [u8],
-    /// Reference frames -1..=3: 2n, at 2i + list.
+    /// Reference frames -1..=3 ([`crate::RefFrame`] as numbers): 2n, at 2i + list.
     pub frames: &'a [i8],
-    /// Vectors: 4n, at (2i + list) x 2, row before column.
+    /// Vectors: 4n, at (2i + list) x 2, row before column. A block below 8x8 has that of its sub-block 3.
     pub mvs: &'a [i16],
-    /// Sub-vectors: 16n, at ((2i + list) x 4 + sub-block) x 2.
+    /// Sub-vectors: 16n, at ((2i + list) x 4 + sub-block) x 2. A block that is not below 8x8 has its vector four times.
     pub subs: &'a [i16],
     /// Those of the previous frame, where it is used.
     pub previous: Option<Previous<'a>>,
@@ -158,7 +159,14 @@ pub struct MvRefs {
     pub context: u8,
 }
 
-/// The vector that a plane (0 luma, 1 and 2 chroma) of sub-block `block` takes; `size` is the block size.
+/// The vector that a plane (0 luma, 1 and 2 chroma) takes; `size` is the block size, `block` the number of the 4x4 block in the plane. Below 8x8:
+///
+/// | Plane | `block`, counted row by row | Vector |
+/// |---|---|---|
+/// | luma, and chroma in 4:4:4 | 0, 1 above, 2, 3 below | of that sub-block |
+/// | chroma in 4:2:0 | 0 | the mean of all four |
+/// | chroma in 4:2:2 | 0 above, 1 below | the mean of 0 and 1; the mean of 1 and 2, as the standard's decoders do |
+/// | chroma in 4:4:0 | 0 on the left, 1 on the right | the mean of 0 and 2; the mean of 1 and 3 |
 ///
 /// # Errors
 /// [`Error::Block`]; [`Error::Vector`] for a component of either list outside -32767..=32767.
@@ -260,16 +268,18 @@ macro_rules! searched {
 /// # Examples
 #[cfg_attr(target_arch = "x86_64", doc = "```")]
 #[cfg_attr(not(target_arch = "x86_64"), doc = "```no_run")]
-/// use knobspindle::{find_mv_refs, BlockGrid, Mv, Place, Tables};
+/// use knobspindle::{find_mv_refs, BlockGrid, BlockSize, Mode, Mv, Place, RefFrame, Tables};
 ///
-/// // two cells in a row; the left one has mode 13 (NEWMV) and its vector, from frame 1
+/// // two cells in a row; the left one has a vector of its own from the last frame
+/// let modes = [Mode::New as u8, 0];
+/// let frames = [RefFrame::Last as i8, RefFrame::None as i8, 0, 0];
 /// let mut mvs = [0; 8];
 /// mvs[..2].copy_from_slice(&[24, -40]);
 /// let mut subs = [0; 32];
 /// subs[..8].copy_from_slice(&[24, -40, 24, -40, 24, -40, 24, -40]);
-/// let tables = Tables { modes: &[13, 0], frames: &[1, 0, 0, 0], mvs: &mvs, subs: &subs, previous: None };
-/// let place = Place { grid: BlockGrid { mi_row: 0, mi_col: 1, mi_rows: 1, mi_cols: 2, mi_size: 3 }, tile: 0..2 };
-/// let found = find_mv_refs(&tables, &place, 1, None, [false; 4])?;
+/// let tables = Tables { modes: &modes, frames: &frames, mvs: &mvs, subs: &subs, previous: None };
+/// let grid = BlockGrid { mi_row: 0, mi_col: 1, mi_rows: 1, mi_cols: 2, mi_size: BlockSize::B8x8 as u8 };
+/// let found = find_mv_refs(&tables, &Place { grid, tile: 0..2 }, RefFrame::Last as i32, None, [false; 4])?;
 /// assert_eq!((found.first, found.second, found.context), (Mv { row: 24, col: -40 }, Mv::default(), 3));
 /// # Ok::<(), knobspindle::Error>(())
 /// ```

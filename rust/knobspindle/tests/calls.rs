@@ -16,6 +16,12 @@ fn candidates() {
 
 #[test]
 #[cfg_attr(not(target_arch = "x86_64"), ignore = "the library is x86-64 code")]
+fn numbers() {
+    checks::numbers();
+}
+
+#[test]
+#[cfg_attr(not(target_arch = "x86_64"), ignore = "the library is x86-64 code")]
 fn samples() {
     checks::samples();
 }

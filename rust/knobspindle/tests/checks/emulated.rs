@@ -7,8 +7,9 @@ mod checks;
 pub extern "C" fn wrapper_checks() {
     checks::vectors();
     checks::candidates();
+    checks::numbers();
     checks::samples();
     checks::whole_prediction();
     checks::cut_into_rectangles();
-    println!("the Rust wrapper: 5 tests passed");
+    println!("the Rust wrapper: 6 tests passed");
 }

@@ -53,6 +53,62 @@ pub fn candidates() {
     assert_eq!(find_best_ref_mvs(&far, [mv(63, 0), mv(64, 1)], true), Ok([mv(63, 0), mv(64, 0)]));
 }
 
+/// The named numbers mean what their names say.
+pub fn numbers() {
+    let modes = [Mode::Dc, Mode::V, Mode::H, Mode::D45, Mode::D135, Mode::D117, Mode::D153, Mode::D207, Mode::D63, Mode::Tm];
+    let all = modes.into_iter().chain([Mode::Nearest, Mode::Near, Mode::Zero, Mode::New]);
+    assert!(all.map(|mode| mode as u8).eq(0..14));
+
+    // what the block below and right of two neighbours finds; the left one has `unused` in its list 1, which has no frame
+    let between = |above: Mode, left: Mode, frame: RefFrame, target: RefFrame, unused: i16| {
+        let cells = [Mode::Dc, above, left, Mode::Dc];
+        let inter = cells.map(|mode| mode as u8 >= Mode::Nearest as u8);
+        let frames: Vec<i8> = inter.iter().flat_map(|&is| [if is { frame } else { RefFrame::Intra } as i8, RefFrame::None as i8]).collect();
+        let mut mvs: Vec<i16> = inter.iter().flat_map(|&is| [16 * i16::from(is), 0, 0, 0]).collect();
+        let subs: Vec<i16> = inter.iter().flat_map(|&is| [[16 * i16::from(is), 0].repeat(4), vec![0; 8]].concat()).collect();
+        mvs[4 * 2 + 2] = unused;
+        let tables = Tables { modes: &cells.map(|mode| mode as u8), frames: &frames, mvs: &mvs, subs: &subs, previous: None };
+        let grid = BlockGrid { mi_row: 1, mi_col: 1, mi_rows: 2, mi_cols: 2, mi_size: BlockSize::B8x8 as u8 };
+        find_mv_refs(&tables, &Place { grid, tile: 0..2 }, target as i32, None, [false; 4])
+    };
+    let context = |above, left| between(above, left, RefFrame::Last, RefFrame::Last, 0).map(|found| found.context);
+    assert_eq!(context(Mode::Zero, Mode::Zero), Ok(0));
+    assert_eq!(context(Mode::Zero, Mode::New), Ok(3));
+    assert_eq!(context(Mode::New, Mode::New), Ok(4));
+    assert_eq!([Mode::Nearest, Mode::Near].map(|mode| context(Mode::Zero, mode)), [Ok(1); 2]);
+    assert_eq!(modes.map(|mode| context(mode, Mode::New)), [Ok(5); 10]);
+    for frame in [RefFrame::Last, RefFrame::Golden, RefFrame::AltRef] {
+        assert_eq!(between(Mode::Zero, Mode::New, frame, frame, 0).map(|found| found.first), Ok(mv(16, 0)), "{frame:?}");
+    }
+    assert_eq!([RefFrame::None, RefFrame::Intra, RefFrame::Last, RefFrame::Golden, RefFrame::AltRef].map(|frame| frame as i8), [-1, 0, 1, 2, 3]);
+    assert_eq!(between(Mode::Zero, Mode::New, RefFrame::Last, RefFrame::Intra, 0), Err(Error::Target));
+    assert_eq!(between(Mode::Zero, Mode::New, RefFrame::Last, RefFrame::Last, -32768), Err(Error::Record));
+
+    use BlockSize::*;
+    let sizes = [B4x4, B4x8, B8x4, B8x8, B8x16, B16x8, B16x16, B16x32, B32x16, B32x32, B32x64, B64x32, B64x64];
+    let cells = [(1, 1), (1, 1), (1, 1), (1, 1), (1, 2), (2, 1), (2, 2), (2, 4), (4, 2), (4, 4), (4, 8), (8, 4), (8, 8)];
+    for (size, (across, down)) in sizes.into_iter().zip(cells) {
+        let grid = BlockGrid { mi_row: 0, mi_col: 0, mi_rows: 16, mi_cols: 16, mi_size: size as u8 };
+        let farthest = PlaneMv { row: -(4 + 8 * down) * 16, col: -(4 + 8 * across) * 16 };
+        assert_eq!(clamp_mv(grid, mv(-32767, -32767), 0, HALVED), Ok(farthest), "{size:?}");
+    }
+
+    // a lone sample, half a sample on, shows the taps of phase 8
+    let row: Vec<u16> = (0..16).map(|i| if i == 8 { 192 } else { 64 }).collect();
+    let source = Source { plane: Plane::whole(&row, 16, 1, 16), from: Stepping { start_x: 8, start_y: 0, step_x: 16, step_y: 16 } };
+    for (filter, first_four) in [
+        (Filter::Regular, [-1, 6, -19, 78]),
+        (Filter::Smooth, [-1, -4, 14, 55]),
+        (Filter::Sharp, [-4, 11, -23, 80]),
+        (Filter::Bilinear, [0, 0, 0, 64]),
+    ] {
+        let mut out = [0; 16];
+        let shape = BlockShape { w: 16, h: 1, filter, depth: 8 };
+        assert_eq!(block_inter_predict(shape, &source, None, &mut Room::new(), &mut out, 16), Ok(()));
+        assert_eq!([11, 10, 9, 8].map(|c| i32::from(out[c]) - 64), first_four, "{filter:?}");
+    }
+}
+
 pub fn samples() {
     let plane = Plane { width: 3, height: 3, stride: 4, upper_rows: 2, upper: &[10, 20, 30, 99, 40, 50, 60, 99], lower: &[70, 81, 255] };
     assert_eq!(plane.row(1), Ok(&[40, 50, 60][..]));
