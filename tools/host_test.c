@@ -102,6 +102,12 @@ static void scale_mv(void)
     geom.frame_height = 359;
     r = knobspindle_scale_mv(geom, 0, 0, 0, (knobspindle_plane_mv){0, 0});
     check("scale, reference too large: answer", r.answer, KNOBSPINDLE_SIZE);
+    static const int32_t last[2] = {65536, 65537};
+    static const uint32_t answers[2] = {KNOBSPINDLE_ACCEPTED, KNOBSPINDLE_SIZE};
+    for (int i = 0; i < 2; i++) {
+        geom = (knobspindle_scale_geom){.ref_frame_width = last[i], .ref_frame_height = 1, .frame_width = last[i], .frame_height = 1};
+        check("scale, 65536 and 65537 wide: answer", knobspindle_scale_mv(geom, 0, 0, 0, (knobspindle_plane_mv){0, 0}).answer, answers[i]);
+    }
 }
 
 static void find_mv_refs(void)
@@ -257,6 +263,32 @@ static void block_inter_predict(void)
     answer = knobspindle_block_inter_predict(shape, geom, from, upper, 8, lower, 2, geom2, from, other, 3, other + 3, 6, room,
                                              KNOBSPINDLE_ROOM, out, 10, 5);
     check("block, depth 9: answer", answer, KNOBSPINDLE_FILTER);
+}
+
+/* the last stride and the last width that are taken, and the next ones */
+static void far_ends(void)
+{
+    static const uint16_t plane[65537] = {5};
+    static uint16_t room[KNOBSPINDLE_ROOM];
+    uint16_t out[1] = {0};
+    knobspindle_block_shape shape = {.w = 1, .h = 1, .filter = 0, .depth = 8, .average = false};
+    knobspindle_stepping from = {.start_x = 0, .start_y = 0, .step_x = 16, .step_y = 16}, nowhere = {0, 0, 0, 0};
+    static const struct {
+        int32_t width;
+        size_t stride, out_stride;
+        uint32_t answer;
+    } table[] = {
+        {1, 131072, 131072, KNOBSPINDLE_ACCEPTED}, {1, 131073, 131072, KNOBSPINDLE_SHORT},  {1, 131072, 131073, KNOBSPINDLE_SHORT},
+        {65536, 65536, 1, KNOBSPINDLE_ACCEPTED},   {65537, 65537, 1, KNOBSPINDLE_SIZE},
+    };
+    for (size_t i = 0; i < sizeof table / sizeof *table; i++) {
+        knobspindle_plane_geom geom = {.width = table[i].width, .height = 1, .stride = table[i].stride, .upper_rows = 1}, none = {0, 0, 0, 0};
+        out[0] = 0;
+        uint32_t answer = knobspindle_block_inter_predict(shape, geom, from, plane, 65537, NULL, 0, none, nowhere, NULL, 0, NULL, 0, room,
+                                                          KNOBSPINDLE_ROOM, out, 1, table[i].out_stride);
+        check("block, far ends: answer", answer, table[i].answer);
+        check("block, far ends: sample", out[0], table[i].answer == KNOBSPINDLE_ACCEPTED ? 5 : 0);
+    }
 }
 
 /* each filter by its name: a lone sample, half a sample on, shows the taps of phase 8 one by one, the last first */
@@ -426,6 +458,10 @@ static void append_and_best(void)
     r = knobspindle_find_best_ref_mvs(g, (knobspindle_mv){63, 0}, (knobspindle_mv){64, 1}, true);
     check("best, high precision, small: row", r.first.row, 63);
     check("best, high precision, large: column", r.second.col, 0);
+    g.mi_col_end = 50;
+    r = knobspindle_find_best_ref_mvs(g, (knobspindle_mv){3, -3}, (knobspindle_mv){0, 0}, false);
+    check("best, a tile beside the block: answer", r.answer, KNOBSPINDLE_GRID);
+    check("best, a tile beside the block: row", r.first.row, 0);
     g.mi_size = 13;
     check("best, size 13: answer", knobspindle_find_best_ref_mvs(g, r.first, r.second, true).answer, KNOBSPINDLE_BLOCK);
 }
@@ -442,6 +478,7 @@ int main(void)
     modes_and_frames();
     row_read();
     block_inter_predict();
+    far_ends();
     filters();
     predict_inter();
     two_sizes();

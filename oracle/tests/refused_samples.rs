@@ -197,6 +197,53 @@ fn stride_below_the_width() {
     assert_panics(&beyond(15, 15), || fast(&a));
 }
 
+/// Refusal 7, a stride above 131,072, of the reference or of the output: the Rust takes any.
+#[test]
+fn stride_131073() {
+    let mut far = vec![0; 131_074];
+    far[131_073] = 7;
+    let bands = Bands {
+        stride: 131_073,
+        ..plane(1, 2, &[0, 0])
+    };
+    let second_row = Scaled {
+        start_y: 16,
+        ..UNSCALED
+    };
+    let lent = Bands {
+        lower: far,
+        ..bands
+    };
+    assert_eq!(fast(&block(reference(lent, second_row), 0, 1, 1)), [7]);
+    let mut out = vec![MARK; 131_074];
+    let wide = BlockArgs {
+        stride: 131_073,
+        ..ramp_block(inside(0, 0), 1, 2)
+    };
+    door::block_inter_predict(&wide, &mut out);
+    assert_eq!([out[0], out[1], out[131_073]], [68, MARK, 84]);
+}
+
+/// Refusal 5, a plane 65,537 wide or high: the Rust reads its last sample like any other.
+#[test]
+fn plane_65537() {
+    let mut samples = vec![0; 65_537];
+    samples[65_536] = 9;
+    let last = 65_536 * 16;
+    let at_end = Scaled {
+        start_x: last,
+        ..UNSCALED
+    };
+    let wide = reference(plane(65_537, 1, &samples), at_end);
+    assert_eq!(fast(&block(wide, 0, 1, 1)), [9]);
+    let at_foot = Scaled {
+        start_y: last,
+        ..UNSCALED
+    };
+    let high = reference(plane(1, 65_537, &samples), at_foot);
+    assert_eq!(fast(&block(high, 0, 1, 1)), [9]);
+}
+
 /// Refusal 7, the output one short, or its stride below w: the Rust panics in the last row, after
 /// the others are written; with a small stride rows are written over each other.
 #[test]

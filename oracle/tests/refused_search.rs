@@ -299,14 +299,17 @@ fn append_component_32768() {
     );
 }
 
-fn best(grid: Grid, pair: [Vector; 2]) -> [Vector; 2] {
-    let tile = Tile { start: 0, end: 2 };
+fn best_in(tile: Tile, grid: Grid, pair: [Vector; 2]) -> [Vector; 2] {
     door::find_best_ref_mvs(&BestArgs {
         grid,
         tile,
         pair,
         high_precision: false,
     })
+}
+
+fn best(grid: Grid, pair: [Vector; 2]) -> [Vector; 2] {
+    best_in(Tile { start: 0, end: 2 }, grid, pair)
 }
 
 /// Refusal 1, block size above 12.
@@ -326,6 +329,20 @@ fn best_grid_out_of_range() {
         best(grid(50, 50, 1, 1, 3), [[0, 0]; 2]),
         [[-1952, -1952]; 2]
     );
+}
+
+/// Refusal 2, a tile beside the block, an empty one, one beyond the frame: the Rust does not look
+/// at it here, and answers as for any other.
+#[test]
+fn best_tile_out_of_range() {
+    let pair = [[3, 3], [9999, -9999]];
+    let whole = best(grid(1, 1, 2, 2, 3), pair);
+    for (start, end) in [(0, 1), (1, 1), (-1, 2), (0, 3)] {
+        assert_eq!(
+            best_in(Tile { start, end }, grid(1, 1, 2, 2, 3), pair),
+            whole
+        );
+    }
 }
 
 /// Refusal 9: the Rust takes any component.
