@@ -139,7 +139,7 @@ pub fn taps_at(table: &[[[i16; 8]; 16]; 4], filter: usize, phase: usize) -> Taps
     taps_in(&table[filter], filter, phase)
 }
 
-// The same without the table: only the rows of the one filter are laid out.
+// The same without the table. The compiler lays out what is read: each literal place takes the rows of its one filter.
 pub fn taps_of(filter: usize, phase: usize) -> Taps
     requires { ⌜ (filter < 4) × (phase < 16) ⌝ }
     ensures { λ r. ⌜ (IsTaps r) × (r .filter ≡ filter) × (r .phase ≡ phase) ⌝ }
