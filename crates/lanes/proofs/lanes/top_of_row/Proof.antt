@@ -43,8 +43,7 @@ loop-again : tie.Need-loop-again Inv-loop μ-loop
 loop-again c =
     let o = c .before .before in
     let l = o .before .before in
-    let s = l .before .before in
-    (
+    let s = l .before .before in (
       omega (arith, l .loop .inv .0, c .either .ensures .0),
       top-more _ _ _ _ _ (l .loop .c) _ _ (o .fewer .ensures) (s .pre .0) (c .either .ensures .0) (c .either .ensures .1) (l .loop .inv .1)
           (c .before .top-of-eight .ensures),
