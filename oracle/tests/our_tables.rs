@@ -99,7 +99,8 @@ fn taps() {
         signed(part(&specs, "regular =", "unfoldable pub filters")),
         tables::taps()
     );
-    let filters = ["REGULAR", "SMOOTH", "SHARP", "BILINEAR"];
-    let of_code = filters.map(|name| constant("crates/taps/src/taps.rt", name));
-    assert_eq!(of_code.concat(), tables::taps());
+    assert_eq!(
+        constant("crates/taps/src/taps.rt", "SUBPEL_FILTERS"),
+        tables::taps()
+    );
 }

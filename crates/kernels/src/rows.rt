@@ -226,7 +226,8 @@ fn row_gathered(
     ensures { λ _. ⌜ now (out .exit) ≡ fill (now (out .entry)) at w (levels max (tap (p .filter)) (now (row .entry)) last start step) ⌝ }
 {
     let m = (start % 16 + step * (w - 1)) / 16 + 8;
-    let mut line = [0u16; 144];
+    // Not of zeros, which the compiler would have C's memset write.
+    let mut line = [1u16; 144];
     gather(row, last, start / 16, m, &mut line, 0);
     row_line(table, p, &line, 0, step, w, max, out, at)
 }

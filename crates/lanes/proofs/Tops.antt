@@ -54,12 +54,12 @@ weaker : {v u : ℕ} {l : List ℕ} {b m : ℕ} → v ≤ u → UpTo v l b m →
 weaker h t = record { le = λ j lt. let x = t .le j lt in omega arith }
 
 -- one row more
-pub rows-top-more : (v e u : ℕ) (l : List ℕ) (b line m i : ℕ) → v ≤ u → e ≤ u → UpToRows v l b line m i → UpTo e l (b + i * line) m
+pub rows-top-more : (v u : ℕ) (l : List ℕ) (b line m i : ℕ) → v ≤ u → UpToRows v l b line m i → UpTo u l (b + i * line) m
     → UpToRows u l b line m (i + 1)
-rows-top-more v e u l b line m i ve ee before more = record {
+rows-top-more v u l b line m i ve before more = record {
   le = λ r h.
       ⊎-elim
-      (λ same. rw same (weaker ee more))
+      (λ same. rw same more)
       (λ lt. weaker ve (before .le r lt))
       (eq-or-lt-of-le (le-of-suc-le-suc (rw add-one at h)));
 }

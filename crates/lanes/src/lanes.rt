@@ -12,7 +12,6 @@ use sums::one_low;
 use sums::one_wide;
 use taps::Taps;
 use taps::fewer;
-use taps::run_copied;
 
 fn wide_down(l: &[u16], s: usize, p: Taps, max: u16) -> u16
     requires { ⌜ IsTaps p ⌝ }
@@ -254,18 +253,18 @@ fn top_of_eight(l: &[u16], s: usize) -> u16
     )
 }
 
-// The same of m samples, eight at a time; the last eight end where the samples end.
-fn top_of_row(l: &[u16], b: usize, m: usize) -> u16
+// The same of v and of m samples, eight at a time; the last eight end where the samples end.
+fn top_of_row(v: u16, l: &[u16], b: usize, m: usize) -> u16
     requires { ⌜ (8 ≤ m) × (b + m ≤ length (now l)) ⌝ }
-    ensures { λ r. ⌜ UpTo r (now (l .entry)) b m ⌝ }
+    ensures { λ r. ⌜ (v ≤ r) × UpTo r (now (l .entry)) b m ⌝ }
 {
-    let mut v = 0u16;
+    let mut top = v;
     let mut c = 0;
     while c < m {
-        v = either(v, top_of_eight(l, b + fewer(c, m - 8)));
+        top = either(top, top_of_eight(l, b + fewer(c, m - 8)));
         c += 8;
     }
-    v
+    top
 }
 
 // Whether no sample of h rows is above 255.
@@ -276,7 +275,7 @@ fn rows_are_low(l: &[u16], b: usize, line: usize, m: usize, h: usize) -> bool
     let mut v = 0u16;
     let mut i = 0;
     while i < h {
-        v = either(v, top_of_row(l, b + i * line, m));
+        v = top_of_row(v, l, b + i * line, m);
         i += 1;
     }
     v < 256
@@ -345,26 +344,58 @@ fn four_moved(l: &[u16], s: usize, out: &mut [u16], at: usize)
     out[at + 3] = d;
 }
 
-// The samples from place s on; most narrow rows are of four.
-fn first(l: &[u16], s: usize, w: usize, out: &mut [u16], at: usize)
-    requires { ⌜ (s + w ≤ length (now l)) × (at + w ≤ length (now out)) ⌝ }
+// Fewer than four samples, without a loop: the compiler makes a call of C's memcpy of one.
+fn few_moved(l: &[u16], s: usize, w: usize, out: &mut [u16], at: usize)
+    requires { ⌜ (w < 4) × (s + w ≤ length (now l)) × (at + w ≤ length (now out)) ⌝ }
     ensures { λ _. ⌜ now (out .exit) ≡ fill (now (out .entry)) at w (onward (now (l .entry)) s) ⌝ }
 {
-    if w == 4 {
-        four_moved(l, s, out, at);
+    if w == 0 {
         return;
     }
-    run_copied(l, s, w, out, at)
+    out[at] = l[s];
+    if w == 1 {
+        return;
+    }
+    out[at + 1] = l[s + 1];
+    if w == 2 {
+        return;
+    }
+    out[at + 2] = l[s + 2];
+}
+
+// The samples from place s on.
+fn first(l: &[u16], s: usize, w: usize, out: &mut [u16], at: usize)
+    requires { ⌜ (w < 8) × (s + w ≤ length (now l)) × (at + w ≤ length (now out)) ⌝ }
+    ensures { λ _. ⌜ now (out .exit) ≡ fill (now (out .entry)) at w (onward (now (l .entry)) s) ⌝ }
+{
+    if w < 4 {
+        few_moved(l, s, w, out, at);
+        return;
+    }
+    four_moved(l, s, out, at);
+    few_moved(l, s + 4, w - 4, out, at + 4)
 }
 
 // The first w of each eight numbers of a list.
 fn rows_first(l: &[u16], w: usize, h: usize, out: &mut [u16], at: usize, stride: usize)
-    requires { ⌜ (w ≤ 8) × (h * 8 ≤ length (now l)) × (at + (h - 1) * stride + w ≤ length (now out)) ⌝ }
+    requires { ⌜ (w < 8) × (h * 8 ≤ length (now l)) × (at + (h - 1) * stride + w ≤ length (now out)) ⌝ }
     ensures { λ _. ⌜ now (out .exit) ≡ fillRows (now (out .entry)) at stride w h (eighths (now (l .entry))) ⌝ }
 {
     let mut i = 0;
     while i < h {
         first(l, i * 8, w, out, at + i * stride);
+        i += 1;
+    }
+}
+
+// The same of four, the usual narrow width.
+fn rows_four(l: &[u16], h: usize, out: &mut [u16], at: usize, stride: usize)
+    requires { ⌜ (h * 8 ≤ length (now l)) × (at + (h - 1) * stride + 4 ≤ length (now out)) ⌝ }
+    ensures { λ _. ⌜ now (out .exit) ≡ fillRows (now (out .entry)) at stride 4 h (eighths (now (l .entry))) ⌝ }
+{
+    let mut i = 0;
+    while i < h {
+        four_moved(l, i * 8, out, at + i * stride);
         i += 1;
     }
 }
@@ -382,11 +413,15 @@ fn narrow_across(
     stride: usize,
 )
     requires { ⌜ IsTaps p ⌝ }
-    requires { ⌜ (w ≤ 8) × (h ≤ 16) × (b + (h - 1) * line + 15 ≤ length (now l)) × (at + (h - 1) * stride + w ≤ length (now out)) ⌝ }
+    requires { ⌜ (w < 8) × (h ≤ 16) × (b + (h - 1) * line + 15 ≤ length (now l)) × (at + (h - 1) * stride + w ≤ length (now out)) ⌝ }
     ensures { λ _. ⌜ now (out .exit) ≡ fillRows (now (out .entry)) at stride w h (lowRows p (now (l .entry)) 1 b line) ⌝ }
 {
     let mut wide = [0u16; 128];
     rows_low_across(l, b, line, p, 8, h, &mut wide, 0, 8);
+    if w == 4 {
+        rows_four(&wide, h, out, at, stride);
+        return;
+    }
     rows_first(&wide, w, h, out, at, stride)
 }
 
@@ -402,11 +437,15 @@ fn narrow_down(
     stride: usize,
 )
     requires { ⌜ IsTaps p ⌝ }
-    requires { ⌜ (w ≤ 8) × (h ≤ 16) × (b + (h - 1) * line + 456 ≤ length (now l)) × (at + (h - 1) * stride + w ≤ length (now out)) ⌝ }
+    requires { ⌜ (w < 8) × (h ≤ 16) × (b + (h - 1) * line + 456 ≤ length (now l)) × (at + (h - 1) * stride + w ≤ length (now out)) ⌝ }
     ensures { λ _. ⌜ now (out .exit) ≡ fillRows (now (out .entry)) at stride w h (lowRows p (now (l .entry)) 64 b line) ⌝ }
 {
     let mut wide = [0u16; 128];
     rows_low_down(l, b, line, p, 8, h, &mut wide, 0, 8);
+    if w == 4 {
+        rows_four(&wide, h, out, at, stride);
+        return;
+    }
     rows_first(&wide, w, h, out, at, stride)
 }
 

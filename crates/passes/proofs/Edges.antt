@@ -23,12 +23,12 @@ pub lines-none : (p : Lent) (b y0 m : ℕ) (lines : List ℕ) → HeldLines p b 
 lines-none p b y0 m lines = record { is = λ i c i0. absurd (not-suc-le-zero i0) }
 
 pub lines-turn : {p : Lent} {b y0 j m : ℕ} {l0 l1 : List ℕ} → 0 < widthOf (p .geom) → m ≤ 71 → HeldLines p b y0 j m l0
-    → Gathered l0 l1 (j * 72) m (heldFrom (rowOf p (min (y0 + j - 200003) (heightOf (p .geom) - 1))) (widthOf (p .geom) - 1) b)
+    → Gathered l0 l1 (j * 71) m (heldFrom (rowOf p (min (y0 + j - 200003) (heightOf (p .geom) - 1))) (widthOf (p .geom) - 1) b)
     → HeldLines p b y0 (j + 1) m l1
 lines-turn {p} {b} {y0} {j} {m} {l0} {l1} wide m71 held more = record {
   is = λ i c ij cm.
       ⊎-elim
-      (λ lt. more .before (i * 72 + c) (omega arith) ∙ held .is i c lt cm)
+      (λ lt. more .before (i * 71 + c) (omega arith) ∙ held .is i c lt cm)
       (λ ge. let e : i ≡ j = omega arith in rw e (more .is c cm ∙ row-held p _ b c wide))
       (lt-or-ge i j);
 }
@@ -81,8 +81,8 @@ across-on max taps p start step y0 i r c = rw (add-assoc y0 i r) refl
 
 -- the lines of rows y0 + i and on give rows i and on of the pass
 pub chunk-is : (max : ℕ) (taps : ℕ → ℕ → ℤ) (p : Lent) (lines : List ℕ) (start y0 i w m : ℕ) → HeldLines p (start / 16) (y0 + i) m (w + 7) lines
-    → (r c : ℕ) → r < m → c < w → ranRows max (taps (start % 16)) lines 1 0 72 r c ≡ acrossFrom max taps p start 16 y0 (i + r) c
+    → (r c : ℕ) → r < m → c < w → ranRows max (taps (start % 16)) lines 1 0 71 r c ≡ acrossFrom max taps p start 16 y0 (i + r) c
 chunk-is max taps p lines start y0 i w m held r c rm cw =
-    even-row max taps p lines 0 72 start (y0 + i) w m
-    (λ k d km dw. ap (λ (j : ℕ). getD lines (j + d) 0) (zero-add (k * 72)) ∙ held .is k d km dw) r c rm cw
+    even-row max taps p lines 0 71 start (y0 + i) w m
+    (λ k d km dw. ap (λ (j : ℕ). getD lines (j + d) 0) (zero-add (k * 71)) ∙ held .is k d km dw) r c rm cw
     ∙ across-on max taps p start 16 y0 i r c

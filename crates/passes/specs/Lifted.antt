@@ -49,7 +49,7 @@ roomAt room r = onward room (r * 64)
 pub record HeldRoom (max : ℕ) (room : List ℕ) (n w : ℕ) : Type 0 where
   pub le : (i c : ℕ) → i < n → c < w → getD room (i * 64 + c) 0 ≤ max
 
--- n lines of 72 have the held samples of m lifted columns from b on, of the rows from the lifted row y0 on
+-- n lines of 71 have the held samples of m lifted columns from b on, of the rows from the lifted row y0 on
 pub record HeldLines (p : Lent) (b y0 n m : ℕ) (lines : List ℕ) : Type 0 where
-  pub is : (i c : ℕ) → i < n → c < m → getD lines (i * 72 + c) 0
+  pub is : (i c : ℕ) → i < n → c < m → getD lines (i * 71 + c) 0
       ≡ plane p (min (y0 + i - 200003) (heightOf (p .geom) - 1)) (min (b + c - 200003) (widthOf (p .geom) - 1))

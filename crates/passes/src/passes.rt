@@ -166,7 +166,7 @@ fn pass_copied<'a>(
     rows_held(upper, lower, pw, ph, stride, k, b, y0, n, w, max, out, rs)
 }
 
-// The held samples of m lifted columns from b on, of n rows from the lifted row y0 on: lines of 72.
+// The held samples of m lifted columns from b on, of n rows from the lifted row y0 on: lines of 71.
 fn gather_rows<'a>(
     upper: &'a [u16],
     lower: &'a [u16],
@@ -180,7 +180,7 @@ fn gather_rows<'a>(
     m: usize,
     lines: &mut [u16],
 )
-    requires { ⌜ (b ≤ 400003) × (y0 ≤ 400137) × (n ≤ 8) × (0 < m) × (m ≤ 71) × (0 < pw) × (0 < ph) × (584 ≤ length (now lines)) ⌝ }
+    requires { ⌜ (b ≤ 400003) × (y0 ≤ 400137) × (n ≤ 8) × (0 < m) × (m ≤ 71) × (0 < pw) × (0 < ph) × (576 ≤ length (now lines)) ⌝ }
     requires { ⌜ fits (view pw ph stride k (now upper) (now lower)) ≡ true ⌝ }
     ensures { λ _. ⌜ HeldLines (view pw ph stride k (now (upper .entry)) (now (lower .entry))) b y0 n m (now (lines .exit)) ⌝ }
 {
@@ -188,7 +188,7 @@ fn gather_rows<'a>(
     while j < n {
         let y = held(y0 + j, ph - 1);
         let r = plane_row(upper, lower, pw, ph, stride, k, y);
-        gather(r, pw - 1, b, m, lines, j * 72);
+        gather(r, pw - 1, b, m, lines, j * 71);
         j += 1;
     }
 }
@@ -219,7 +219,8 @@ fn pass_gathered<'a>(
         (acrossFrom max (tap (p .filter)) (view pw ph stride k (now (upper .entry)) (now (lower .entry))) start 16 y0) ⌝ }
 {
     let b = start / 16;
-    let mut lines = [0u16; 584];
+    // Not of zeros, which the compiler would have C's memset write.
+    let mut lines = [1u16; 576];
     let mut done = 0;
     while done < n {
         let m = fewer(n - done, 8);
@@ -236,7 +237,7 @@ fn pass_gathered<'a>(
             w + 7,
             &mut lines,
         );
-        rows_across(&lines, 0, 72, p, w, max, m, room, done * rs, rs);
+        rows_across(&lines, 0, 71, p, w, max, m, room, done * rs, rs);
         done += 8;
     }
 }

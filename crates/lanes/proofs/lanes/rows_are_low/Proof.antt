@@ -40,9 +40,6 @@ top-of-row-requires c κs =
     let e : l .loop .i ≤ s .args .h - 1 = omega (arith, l .loop .inv .0) in
     omega (arith, mul-le-mul-right (s .args .line) e, s .pre)
 
-either-requires : tie.Need-either-requires Inv-loop μ-loop
-either-requires c κs = search needs
-
 add-i : tie.Need-add-i Inv-loop μ-loop
 add-i c = omega arith
 
@@ -51,9 +48,8 @@ loop-less c = omega arith
 
 loop-again : tie.Need-loop-again Inv-loop μ-loop
 loop-again c =
-    let t = c .before in
-    let l = t .before .before in
-    (omega arith, rows-top-more _ _ _ _ _ _ _ _ (c .either .ensures .0) (c .either .ensures .1) (l .loop .inv .1) (t .top-of-row .ensures))
+    let l = c .before .before in
+    (omega arith, rows-top-more _ _ _ _ _ _ _ (c .top-of-row .ensures .0) (l .loop .inv .1) (c .top-of-row .ensures .1))
 
 returns : tie.Need-returns Inv-loop μ-loop
 returns c =
@@ -73,7 +69,6 @@ rows-are-low-spec =
     mul-top-of-row
     add-top-of-row
     top-of-row-requires
-    either-requires
     add-i
     loop-less
     loop-again

@@ -15,7 +15,7 @@ use Rattle.passes.proofs.passes.pass_gathered.Tie as tie
 
 abbrev Inv-loop : tie.InvT-loop
 Inv-loop p upper lower pw ph stride k start y0 n w max room₀ rs b lines₀ done₀ room lines done =
-    (done ≤ n + 7) × (length lines ≡ 584)
+    (done ≤ n + 7) × (length lines ≡ 576)
     × Painting room₀ rs w (min done n) (acrossFrom max (tap (p .filter)) (view pw ph stride k upper lower) start 16 y0) room
 
 abbrev μ-loop : tie.MeasureT-loop
