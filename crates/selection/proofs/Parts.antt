@@ -32,6 +32,7 @@ list-number-small true = omega arith
 list-number-small false = omega arith
 
 -- a partner that is asked for stands within the block
-pub partner-below : (plane size b : ℕ) (sx sy : Bool) → ownVector plane size ≡ false → partnerOff sx sy ≤ 2 → partnered plane size b sx sy ≡ true → b + partnerOff sx sy < 4
+pub partner-below : (plane size b : ℕ) (sx sy : Bool) → ownVector plane size ≡ false → partnerOff sx sy ≤ 2
+    → partnered plane size b sx sy ≡ true → b + partnerOff sx sy < 4
 unfolding partnered
 partner-below plane size b sx sy o far e = let h = leb-true b _ (rw o at e) in omega arith

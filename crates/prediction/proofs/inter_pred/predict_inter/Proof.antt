@@ -110,9 +110,10 @@ returns-2 c =
     let j = e .before .before .judge in
     let o = rw (call-is f, f .first-in .ensures) at (p .predict .ensures .1) in
     let out = s .args .out .now in
+    let second = told-two (asked s) _ _ (j .result) (j .ensures) (zero e) in
     record {
       number = p .predict .ensures .0 ∙ sym (zero e);
-      output = o ∙ painted-is (asked s) (j .result .from2) out (told-two (asked s) _ _ (j .result) (j .ensures) (zero e)) ∙ sym (after-taken (asked s) out _ (zero e));
+      output = o ∙ painted-is (asked s) (j .result .from2) out second ∙ sym (after-taken (asked s) out _ (zero e));
       kept = λ d. absurd (d (zero e));
     }
 
