@@ -19,7 +19,7 @@ use Rattle.records.specs.Tables.{Tables, gridOk, longEnough}
 use Rattle.records.specs.Records.{legalRecords}
 use Rattle.records.specs.declared.geometry.MvRefGeometry.{MvRefGeometry}
 use Rattle.lists.specs.MvRef.{bestRows, legalFour, appendRows}
-use Rattle.lists.specs.Rows.{callRows, searchRows}
+use Rattle.lists.specs.Rows.{callRows, sharedRows}
 
 unless-same : (n : ℕ) (t : Bool) (a b : ℕ) → (unless n t a ≡ 0 → ⊥) → ((a ≡ 0 → ⊥) → b ≡ a) → unless n t b ≡ unless n t a
 unfolding unless
@@ -64,7 +64,7 @@ pub record SearchOk (t : Tables) (g : MvRefGeometry) (target : ℤ) (right usePr
   pub legal : legalRecords t g usePrev ≡ true
 
 pub search-ok : (t : Tables) (g : MvRefGeometry) (target : ℤ) (right usePrev : Bool)
-    → answer (searchRows t g target right usePrev) ≡ 0 → SearchOk t g target right usePrev
+    → answer (sharedRows t g target right usePrev) ≡ 0 → SearchOk t g target right usePrev
 search-ok t g target right usePrev e =
     let p = unless-zero 0 right _ e in
     let q = unless-zero 1 (gridOk g) _ (p .1) in
@@ -119,7 +119,7 @@ pub append-ok : (t : Tables) (g : MvRefGeometry) (target : ℤ) (b : ℕ) (m : L
     → answer (appendRows t g target b m usePrev) ≡ 0 → AppendOk t g b m usePrev
 append-ok t g target b m usePrev e =
     let right = leb (g .«mi_size») 12 && leb b 3 in
-    let rows = searchRows t g target right usePrev in
+    let rows = sharedRows t g target right usePrev in
     let last = row VECTOR (legalFour m) ∷ [] in
     let none = first-zero 0 rows last refl e in
     let p = search-ok t g target right usePrev none in

@@ -18,8 +18,8 @@ callRows right g target = row BLOCK right ∷ row GRID (gridOk g) ∷ row TARGET
 abbrev pub tableRows : Tables → MvRefGeometry → Bool → List Row
 tableRows t g usePrev = row SHORT (longEnough t g usePrev) ∷ row RECORD (legalRecords t g usePrev) ∷ []
 
-abbrev pub searchRows : Tables → MvRefGeometry → ℤ → Bool → Bool → List Row
-searchRows t g target right usePrev = callRows right g target ++ tableRows t g usePrev
+abbrev pub sharedRows : Tables → MvRefGeometry → ℤ → Bool → Bool → List Row
+sharedRows t g target right usePrev = callRows right g target ++ tableRows t g usePrev
 
 -- row 1 asks for a block size of at most 12, whatever else it asks for
 unfoldable pub Sized : Bool → MvRefGeometry → Type 0

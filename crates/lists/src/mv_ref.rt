@@ -115,7 +115,7 @@ pub fn search_refusal(
 ) -> u32
     requires { ⌜ Rows.Sized right g ⌝ }
     ensures { λ r. ⌜
-        r ≡ answer (Rows.searchRows (Tables.tables (now (modes .entry)) (now (frames .entry)) (now (mvs .entry)) (now (subs .entry))
+        r ≡ answer (Rows.sharedRows (Tables.tables (now (modes .entry)) (now (frames .entry)) (now (mvs .entry)) (now (subs .entry))
         (now («prev_frames» .entry)) (now («prev_mvs» .entry))) g target right «use_prev»)
         ⌝ }
 {

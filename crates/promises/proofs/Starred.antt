@@ -22,7 +22,7 @@ use Rattle.taps.specs.Taps.{regular, smooth, sharp, bilinear, filters, tap}
 use Rattle.blocks.specs.Sample.{across, sample, blend}
 use Rattle.planes.specs.Plane.{plane}
 use Rattle.samples.specs.Call.{fromRef}
-use Rattle.promises.specs.Starred.{halving, quartering, endsCrossed, heldHigh, modes, subThree, steps, oneRow, stepped, average, clipped, far}
+use Rattle.promises.specs.Starred.{halving, quartering, endsCrossed, heldHigh, modes, subThree, steps, oneRow, everySecond, average, aboveDepth, far}
 use Rattle.promises.specs.Starred.{starredRows, Right}
 
 halving-is : halving .gives ≡ halving .says
@@ -62,17 +62,17 @@ row-is : oneRow .gives ≡ oneRow .says
 unfolding oneRow fromRef sample across filtered place hold Position.along plane tap filters bilinear
 row-is = refl
 
-stepped-is : stepped .gives ≡ stepped .says
-unfolding stepped fromRef sample across filtered place hold Position.along plane tap filters regular smooth sharp bilinear
-stepped-is = refl
+second-is : everySecond .gives ≡ everySecond .says
+unfolding everySecond fromRef sample across filtered place hold Position.along plane tap filters regular smooth sharp bilinear
+second-is = refl
 
 average-is : average .gives ≡ average .says
 unfolding average blend
 average-is = refl
 
-clipped-is : clipped .gives ≡ clipped .says
-unfolding clipped fromRef sample across filtered place hold Position.along plane tap filters regular smooth sharp bilinear
-clipped-is = refl
+depth-is : aboveDepth .gives ≡ aboveDepth .says
+unfolding aboveDepth fromRef sample across filtered place hold Position.along plane tap filters regular smooth sharp bilinear
+depth-is = refl
 
 far-is : far .gives ≡ far .says
 unfolding far scaleMv scaleOf lumaOf fracOf startOf stepOf sized allowed usable placed legal16 startAxis stepAxis between unless
@@ -82,5 +82,5 @@ far-is = refl
 pub starred : (c : Mv) → Right (starredRows c)
 unfolding starredRows
 starred c =
-    let samples : Right (oneRow ∷ stepped ∷ average ∷ clipped ∷ far ∷ []) = (row-is, (stepped-is, (average-is, (clipped-is, (far-is, tt))))) in
+    let samples : Right (oneRow ∷ everySecond ∷ average ∷ aboveDepth ∷ far ∷ []) = (row-is, (second-is, (average-is, (depth-is, (far-is, tt))))) in
     (halving-is, (quartering-is, (crossed-is, (held-is, (modes-is, (three-is c, (steps-is, samples)))))))

@@ -123,8 +123,8 @@ oneRow =
     example (at (pos 8) (pos 16) 0 ∷ at (pos 8) (pos 16) 1 ∷ at (negsuc 7) (pos 16) 0 ∷ []) (pos 15 ∷ pos 20 ∷ pos 10 ∷ [])
 
 -- "Row 1, 2, 3, 4, 5; start 0, step 32, two wide: 1, 3.", by each of the four filters
-unfoldable pub stepped : Example
-stepped =
+unfoldable pub everySecond : Example
+everySecond =
     let at : ℕ → ℕ → ℤ = λ f c. along f 5 (1 ∷ 2 ∷ 3 ∷ 4 ∷ 5 ∷ []) (pos 0) (pos 32) c in
     example
     (at 0 0 ∷ at 0 1 ∷ at 1 0 ∷ at 1 1 ∷ at 2 0 ∷ at 2 1 ∷ at 3 0 ∷ at 3 1 ∷ [])
@@ -135,8 +135,8 @@ unfoldable pub average : Example
 average = example (pos (blend true 3 4) ∷ []) (pos 4 ∷ [])
 
 -- "Depth 8, sample 300, start 0: 255 (the Rust's copy: 300).", by each of the four filters
-unfoldable pub clipped : Example
-clipped =
+unfoldable pub aboveDepth : Example
+aboveDepth =
     let at : ℕ → ℤ = λ f. along f 1 (300 ∷ []) (pos 0) (pos 16) 0 in
     example (at 0 ∷ at 1 ∷ at 2 ∷ at 3 ∷ []) (pos 255 ∷ pos 255 ∷ pos 255 ∷ pos 255 ∷ [])
 
@@ -146,7 +146,7 @@ far = let s = scaled (pos 9999) (pos 9999) (pos 9000) in example (pos (s .answer
 
 unfoldable pub starredRows : Mv → List Example
 starredRows c =
-    halving ∷ quartering ∷ endsCrossed ∷ heldHigh ∷ modes ∷ subThree c ∷ steps ∷ oneRow ∷ stepped ∷ average ∷ clipped ∷ far ∷ []
+    halving ∷ quartering ∷ endsCrossed ∷ heldHigh ∷ modes ∷ subThree c ∷ steps ∷ oneRow ∷ everySecond ∷ average ∷ aboveDepth ∷ far ∷ []
 
 -- each row gives what the document says
 abbrev pub Right : List Example → Type 0

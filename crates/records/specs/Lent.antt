@@ -23,7 +23,7 @@ abbrev pub cells : MvRefGeometry → ℕ
 cells g = toN (g .«mi_rows») * toN (g .«mi_cols»)
 
 -- r is the component x, which is one of 16 bits
-pub record Part (x r : ℤ) : Type 0 where
+pub record Widened (x r : ℤ) : Type 0 where
   pub is : r ≡ x
   pub small : mag r < 2 ^ 15
 

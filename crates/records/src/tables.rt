@@ -5,7 +5,7 @@ ghost use lib.IntN.{pos};
 ghost use lib.ListN.{getD, length};
 ghost use Rattle.base.specs.Vector.{mv};
 ghost use Rattle.records.specs.Tables as Tables;
-ghost use Rattle.records.specs.Lent.{Part, Read};
+ghost use Rattle.records.specs.Lent.{Widened, Read};
 use base::Eighth;
 use base::Mv;
 
@@ -17,7 +17,7 @@ fn wide_frame(x: i8) -> i32
 }
 
 fn wide_part(x: i16) -> i32
-    ensures { λ r. ⌜ Part x r ⌝ }
+    ensures { λ r. ⌜ Widened x r ⌝ }
 {
     x as i32
 }

@@ -10,12 +10,12 @@ use mir.Syntax.{w16, w32}
 use mir.Val.{toZ, ofZ}
 use mir.Facts.{toZ-ofZ}
 use Rattle.records.proofs.Fit.{back}
-use Rattle.records.specs.Lent.{Part}
+use Rattle.records.specs.Lent.{Widened}
 use Rattle.records.proofs.tables.vector_at.Statement.{statement}
 use Rattle.records.proofs.tables.vector_at.Tie as tie
 
 -- a component x that wide_part carried over as r
-carried : (x r : ℤ) → mag x < 2 ^ 15 → Part (toZ w16 (ofZ w16 x)) r → Part x (toZ w32 (ofZ w32 r))
+carried : (x r : ℤ) → mag x < 2 ^ 15 → Widened (toZ w16 (ofZ w16 x)) r → Widened x (toZ w32 (ofZ w32 r))
 carried x r h p =
     let e = back {z = r} (record { sfits = omega (arith, p .small) }) in
     record { is = e ∙ p .is ∙ toZ-ofZ {w = w16} {z = x} (record { sfits = h }); small = rw e (p .small) }

@@ -10,7 +10,7 @@ use Rattle.base.specs.Answer.{Row, row, answer, VECTOR}
 use Rattle.base.proofs.Tests.{and-left}
 use Rattle.records.specs.Tables.{Tables, tables}
 use Rattle.lists.specs.MvRef.{legalFour}
-use Rattle.lists.specs.Rows.{Sized, searchRows}
+use Rattle.lists.specs.Rows.{Sized, sharedRows}
 use Rattle.lists.proofs.Table.{refused-more, accepted-more}
 use Rattle.sub8x8.proofs.append.append_refusal.Statement.{statement}
 use Rattle.sub8x8.proofs.append.append_refusal.Tie as tie
@@ -21,7 +21,7 @@ lent c =
 
 abbrev rows : tie.Start → List Row
 rows c =
-    let a = c .args in searchRows (lent c) (a .g) (a .target) (leb (a .g .«mi_size») 12 && leb (a .block) 3) (a .use-prev)
+    let a = c .args in sharedRows (lent c) (a .g) (a .target) (leb (a .g .«mi_size») 12 && leb (a .block) 3) (a .use-prev)
 
 is : (c : tie.After-search-refusal) → c .search-refusal .result ≡ answer (rows (c .before .before .before))
 is c = let s = c .before .before .before in rw (toZ-ofZ (s .fits .target)) at (c .search-refusal .ensures)
