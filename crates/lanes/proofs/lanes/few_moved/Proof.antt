@@ -76,7 +76,8 @@ same-length-2 c = search needs
 returns-3 : tie.Need-returns-3
 unfolding onward
 returns-3 c =
-    let a = c .before .before .before .before .before .args in
+    let one = c .before .before .before in
+    let a = one .before .before .args in
     let e : a .w ≡ 2 = omega arith in
     rw e (rw add-zero at (two-written (a .out .now) (a .at) (onward (a .l .now) (a .s))))
 
@@ -104,7 +105,8 @@ same-length-3 c = search needs
 returns-4 : tie.Need-returns-4
 unfolding onward
 returns-4 c =
-    let a = c .before .before .before .before .before .before .args in
+    let two = c .before .before .before in
+    let a = two .before .before .before .args in
     let e : a .w ≡ 3 = omega arith in
     rw e (rw add-zero at (three-written (a .out .now) (a .at) (onward (a .l .now) (a .s))))
 

@@ -38,8 +38,10 @@ same-length-2 c = search needs
 returns-2 : tie.Need-returns-2
 returns-2 c =
     let m = c .before .before in
-    let g = m .before .before .before .before in
-    let s = g .before .before .before .before .before in
+    let back = m .before .before in
+    let g = back .before .before in
+    let known = g .before .before .before in
+    let s = known .before .before in
     let a = s .args in
     let four = g .four-moved .ensures in
     let so : Filling (a .out .now) (a .at) 4 (onward (a .l .now) (a .s)) _ = record { is = four; long = ap length four ∙ length-fill _ _ _ _ } in
