@@ -96,11 +96,7 @@ impl Call {
 pub fn make(call: Call, seed: u64, count: u32) -> Vec<u8> {
     let rng = &mut Rng::new(seed, call as u64);
     let n = count as usize;
-    let mut w = Writer::default();
-    w.0.extend(MAGIC);
-    w.u32(call as u32);
-    w.len(call.record());
-    w.u32(count);
+    let mut w = header(call, count);
     match call {
         Call::SelectMv => fixed::make::<SelectArgs>(rng, n, &mut w),
         Call::ClampMv => fixed::make::<ClampArgs>(rng, n, &mut w),
@@ -113,6 +109,33 @@ pub fn make(call: Call, seed: u64, count: u32) -> Vec<u8> {
         Call::PredictInter => staged::make::<PredictArgs>(rng, n, &mut w),
     }
     w.0
+}
+
+/// The same cases, each with this filter in the place of its own, and answered so; None if the call
+/// takes no filter.
+pub fn make_filtered(call: Call, seed: u64, count: u32, filter: usize) -> Option<Vec<u8>> {
+    let rng = &mut Rng::new(seed, call as u64);
+    let n = count as usize;
+    let mut w = header(call, count);
+    match call {
+        Call::BlockInterPredict => {
+            staged::make_with::<BlockArgs>(rng, n, &mut w, |q| q.args.filter = filter);
+        }
+        Call::PredictInter => {
+            staged::make_with::<PredictArgs>(rng, n, &mut w, |q| q.args.filter = filter);
+        }
+        _ => return None,
+    }
+    Some(w.0)
+}
+
+fn header(call: Call, count: u32) -> Writer {
+    let mut w = Writer::default();
+    w.0.extend(MAGIC);
+    w.u32(call as u32);
+    w.len(call.record());
+    w.u32(count);
+    w
 }
 
 #[derive(Clone, Copy, Debug, PartialEq, Eq)]

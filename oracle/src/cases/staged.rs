@@ -40,15 +40,27 @@ pub trait Staged {
 }
 
 pub fn make<S: Staged>(rng: &mut Rng, count: usize, w: &mut Writer) {
+    make_with::<S>(rng, count, w, |_| ());
+}
+
+/// The same after `set` was applied to every query; the answers are to what it made of them.
+pub fn make_with<S: Staged>(
+    rng: &mut Rng,
+    count: usize,
+    w: &mut Writer,
+    set: impl Fn(&mut S::Query),
+) {
     let mut left = count;
     for (scene, queries) in S::boundaries() {
-        let queries: Vec<S::Query> = queries.into_iter().map(|(_, query)| query).collect();
+        let mut queries: Vec<S::Query> = queries.into_iter().map(|(_, query)| query).collect();
+        queries.iter_mut().for_each(&set);
         for part in queries.chunks(MOST_QUERIES) {
             left -= write_stage::<S>(&scene, part, left, w);
         }
     }
     while left > 0 {
-        let (scene, queries) = S::random(rng);
+        let (scene, mut queries) = S::random(rng);
+        queries.iter_mut().for_each(&set);
         left -= write_stage::<S>(&scene, &queries, left, w);
     }
 }

@@ -215,6 +215,37 @@ fn another_seed_gives_other_cases_after_the_boundaries() {
     }
 }
 
+/// But for the filter the arguments are those of the file without it; the mark is no argument.
+#[test]
+fn a_filter_that_is_asked_for_is_that_of_every_case() {
+    for call in Call::ALL {
+        let (filter_at, mark_at) = match call {
+            Call::BlockInterPredict => (96, 133),
+            Call::PredictInter => (160, 224),
+            _ => {
+                assert_eq!(make_filtered(call, 5, 10, 3), None, "{}", call.name());
+                continue;
+            }
+        };
+        let arguments = |file: &[u8]| -> Vec<Vec<u8>> {
+            let of = |start: usize| file[start..start + answer_at(call)].to_vec();
+            records(call, file).into_iter().map(of).collect()
+        };
+        for filter in [0, 3, 4] {
+            let file = &make_filtered(call, 5, 1500, filter).unwrap();
+            let owed = arguments(&make(call, 5, 1500)).into_iter();
+            for (i, (mut owed, found)) in owed.zip(arguments(file)).enumerate() {
+                owed[filter_at..filter_at + 8].copy_from_slice(&(filter as u64).to_le_bytes());
+                owed[mark_at] = found[mark_at];
+                assert_eq!(found, owed, "{} {i}", call.name());
+            }
+            // The answers are to the arguments as they stand there.
+            assert_eq!(numbers(call, file).contains(&0), filter < 4);
+            assert_eq!(ask(call, file).map(|asked| asked.differences), Ok(0));
+        }
+    }
+}
+
 /// An answer, a value and a sample altered: each is one difference.
 #[test]
 fn a_planted_difference_is_found() {
