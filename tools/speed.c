@@ -1,6 +1,7 @@
 /* Runs the same inputs through Knobspindle and through the Rust, in one program, and compares what they give. See tools/speed.
  *
- *   speed        every case on both sides, compared; then once more with a line before and after each call, for a trace to be cut at
+ *   speed        every case on both sides, compared; then once more with a line before and after each call, for a trace to be cut at;
+ *                where two filters stand beside each other, our own side alone with each
  *   speed steps  the same under tools/steps.c, which counts between the two lines
  *   speed list   the cases: group, name
  *   speed time   nanoseconds of a call: side, case, time
@@ -350,8 +351,8 @@ static NEVER_INLINE void nothing(void)
     __asm__ volatile("");
 }
 
-/* The trace between the two lines is the call, and what an empty case costs. */
-static void traced(const char *side, const char *name, void (*run)(void))
+/* The trace between the two lines is the call, and what an empty case costs; not inlined, so that this is the same wherever it is asked for. */
+static NEVER_INLINE void traced(const char *side, const char *name, void (*run)(void))
 {
     char line[100];
     snprintf(line, sizeof line, "@%s %s\n", side, name);
@@ -393,9 +394,20 @@ static void timed(const char *name, void (*ours)(void), void (*rust)(void))
     printf("ours ns\t%s\t%ld\nrust ns\t%s\t%ld\n", name, least, name, least_rust);
 }
 
-static void one_case(const char *group, const char *name, void (*ours)(void), void (*rust)(void))
+static void compared(const char *name, void (*ours)(void), void (*rust)(void))
 {
     number++;
+    fill_outputs();
+    ours();
+    rust();
+    if (!same()) {
+        differ++;
+        printf("DIFFERENT: %s: our answer is %u\n", name, answer);
+    }
+}
+
+static void one_case(const char *group, const char *name, void (*ours)(void), void (*rust)(void))
+{
     if (list) {
         printf("%s\t%s\n", group, name);
         return;
@@ -404,13 +416,7 @@ static void one_case(const char *group, const char *name, void (*ours)(void), vo
         timed(name, ours, rust);
         return;
     }
-    fill_outputs();
-    ours();
-    rust();
-    if (!same()) {
-        differ++;
-        printf("DIFFERENT: %s: our answer is %u\n", name, answer);
-    }
+    compared(name, ours, rust);
     traced("ours", name, ours);
     traced("rust", name, rust);
 }
@@ -475,12 +481,33 @@ static void searches(void)
 
 #ifdef HAVE_knobspindle_block_inter_predict
 /* A w x w block whose first sample is (x, y) and the phase; both references alike but for what they hold. */
-static void block_case(const char *group, const char *name, size_t w, int x, int y, int phase_x, int phase_y, int step, uint32_t depth, bool average)
+static void place_block(size_t w, int x, int y, int phase_x, int phase_y, int step, uint32_t depth, bool average)
 {
     struct reference r = {WIDTH, HEIGHT, STRIDE, planes[0], 16 * x + phase_x, 16 * y + phase_y, step, step};
     block_args = (struct block){w, w, 0, depth, average, {r, r}, out[RUST], OUT_STRIDE};
     block_args.refs[1].samples = planes[1];
+}
+
+static void block_case(const char *group, const char *name, size_t w, int x, int y, int phase_x, int phase_y, int step, uint32_t depth, bool average)
+{
+    place_block(w, x, y, phase_x, phase_y, step, depth, average);
     one_case(group, name, ours_block, rust_block);
+}
+
+/* The block that was placed, with filter 0 and with filter 3: both compared with the Rust, and our own counted. */
+static void filter_case(const char *group, const char *name)
+{
+    if (list)
+        printf("%s\t%s\n", group, name);
+    if (list || timing)
+        return;
+    for (size_t filter = 0; filter <= 3; filter += 3) {
+        char full[100];
+        snprintf(full, sizeof full, "%s, filter %zu", name, filter);
+        block_args.filter = filter;
+        compared(full, ours_block, rust_block);
+        traced(filter ? "filter3" : "filter0", name, ours_block);
+    }
 }
 
 static const int sizes[] = {4, 8, 16, 64};
@@ -513,6 +540,30 @@ static void blocks(void)
             snprintf(name, sizeof name, "%dx%d %s, interior, 10 bit", sizes[i], sizes[i], kinds[k]);
             block_case("beside", name, sizes[i], 50, 50, k & 1 ? 5 : 0, k & 2 ? 9 : 0, 16, 10, false);
         }
+}
+
+/* The kinds of blocks above that filter, in every size, at 8 or at 10 bit; one with steps; at 8 bit also averaged ones. */
+static void filters(uint32_t depth)
+{
+    const char *group = depth == 8 ? "filters, 8 bit" : "filters, 10 bit", *bits = depth == 8 ? "" : ", 10 bit";
+    char name[80];
+    fill_planes(depth);
+    for (int edge = 0; edge < 2; edge++)
+        for (int i = 0; i < 4; i++)
+            for (int k = 1; k < 4; k++) {
+                int at = edge ? -2 : 50;
+                snprintf(name, sizeof name, "%dx%d %s, %s%s", sizes[i], sizes[i], kinds[k], edge ? "edge" : "interior", bits);
+                place_block(sizes[i], at, at, k & 1 ? 5 : 0, k & 2 ? 9 : 0, 16, depth, false);
+                filter_case(group, name);
+            }
+    snprintf(name, sizeof name, "64x64 steps of 20%s", bits);
+    place_block(64, 50, 50, 5, 9, 20, depth, false);
+    filter_case(group, name);
+    for (int i = 2; i < 4 && depth == 8; i++) {
+        snprintf(name, sizeof name, "%dx%d both, interior, averaged", sizes[i], sizes[i]);
+        place_block(sizes[i], 50, 50, 5, 9, 16, depth, true);
+        filter_case(group, name);
+    }
 }
 #endif
 
@@ -570,6 +621,8 @@ int main(int argc, char **argv)
 #endif
 #ifdef HAVE_knobspindle_block_inter_predict
     blocks();
+    filters(8);
+    filters(10);
 #endif
 #ifdef HAVE_knobspindle_predict_inter
     predictions();
