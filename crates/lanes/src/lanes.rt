@@ -236,14 +236,14 @@ fn rows_low_down(
 }
 
 // A number that neither is above.
-fn either(a: u16, b: u16) -> u16
+pub fn either(a: u16, b: u16) -> u16
     ensures { λ r. ⌜ (a ≤ r) × (b ≤ r) ⌝ }
 {
     a | b
 }
 
 // A number that no sample of eight is above.
-fn top_of_eight(l: &[u16], s: usize) -> u16
+pub fn top_of_eight(l: &[u16], s: usize) -> u16
     requires { ⌜ s + 8 ≤ length (now l) ⌝ }
     ensures { λ r. ⌜ UpTo r (now (l .entry)) s 8 ⌝ }
 {

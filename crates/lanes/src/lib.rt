@@ -1,5 +1,7 @@
-// Rows of results of one phase, in 16-bit lanes. Only `kernels` and `passes` call it.
+// Rows of results of one phase, in 16-bit lanes. `kernels` and `passes` call it; `pairs` takes the top of samples from it.
 mod lanes;
 
+pub use lanes::either;
 pub use lanes::rows_across;
 pub use lanes::rows_down;
+pub use lanes::top_of_eight;
