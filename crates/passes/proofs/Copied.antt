@@ -134,17 +134,6 @@ module _ (max : ℕ) (p : Lent) (b y0 w n : ℕ) (in-x : unheld b w (widthOf (p 
         place-is (y0 - 200003 - p .geom .«upper_rows») (b - 200003) (p .geom .stride) i c,
       )
 
-  pub upper-copy : y0 - 200003 + n ≤ p .geom .«upper_rows» → (i c : ℕ) → i < n → c < w
-      → clippedRows max (p .upper) ((y0 - 200003) * p .geom .stride + (b - 200003)) (p .geom .stride) i c ≡ copyFrom max p b y0 i c
-  unfolding clippedRows clipped copyFrom
-  upper-copy h i c ni cw = ap (λ (v : ℕ). min v max) (upper-at h i c ni cw)
-
-  pub lower-copy : p .geom .«upper_rows» ≤ y0 - 200003 → (i c : ℕ) → i < n → c < w
-      → clippedRows max (p .lower) ((y0 - 200003 - p .geom .«upper_rows») * p .geom .stride + (b - 200003)) (p .geom .stride) i c
-      ≡ copyFrom max p b y0 i c
-  unfolding clippedRows clipped copyFrom
-  lower-copy h i c ni cw = ap (λ (v : ℕ). min v max) (lower-at h i c ni cw)
-
   -- the band that all the rows stand in, and the first row in it
   module _ (l : List ℕ) (r : ℕ) (band : l ≡ cond (ltb (y0 - 200003) (p .geom .«upper_rows»)) (p .upper) (p .lower))
       (first : r ≡ cond (ltb (y0 - 200003) (p .geom .«upper_rows»)) (y0 - 200003) (y0 - 200003 - p .geom .«upper_rows»))
@@ -164,16 +153,23 @@ module _ (max : ℕ) (p : Lent) (b y0 w n : ℕ) (in-x : unheld b w (widthOf (p 
         by-test true t = upper-fits (in-upper t)
         by-test false t = lower-fits (ltb-false _ _ t)
 
-    pub band-copy : (i c : ℕ) → i < n → c < w
-        → clippedRows max l (r * p .geom .stride + (b - 200003)) (p .geom .stride) i c ≡ copyFrom max p b y0 i c
-    band-copy i c ni cw = rw (band, first) (by-test (ltb (y0 - 200003) (p .geom .«upper_rows»)) refl)
+    -- what it has where the rectangle reads
+    pub band-at : (i c : ℕ) → i < n → c < w
+        → getD l (r * p .geom .stride + (b - 200003) + i * p .geom .stride + c) 0
+        ≡ plane p (min (y0 + i - 200003) (heightOf (p .geom) - 1)) (min (b + c - 200003) (widthOf (p .geom) - 1))
+    band-at i c ni cw = rw (band, first) (by-test (ltb (y0 - 200003) (p .geom .«upper_rows»)) refl)
       where
         by-test : (t : Bool) → ltb (y0 - 200003) (p .geom .«upper_rows») ≡ t
-            → clippedRows max (cond t (p .upper) (p .lower))
-            (cond t (y0 - 200003) (y0 - 200003 - p .geom .«upper_rows») * p .geom .stride + (b - 200003)) (p .geom .stride) i c
-            ≡ copyFrom max p b y0 i c
-        by-test true t = upper-copy (in-upper t) i c ni cw
-        by-test false t = lower-copy (ltb-false _ _ t) i c ni cw
+            → getD (cond t (p .upper) (p .lower))
+            (cond t (y0 - 200003) (y0 - 200003 - p .geom .«upper_rows») * p .geom .stride + (b - 200003) + i * p .geom .stride + c) 0
+            ≡ plane p (min (y0 + i - 200003) (heightOf (p .geom) - 1)) (min (b + c - 200003) (widthOf (p .geom) - 1))
+        by-test true t = upper-at (in-upper t) i c ni cw
+        by-test false t = lower-at (ltb-false _ _ t) i c ni cw
+
+    pub band-copy : (i c : ℕ) → i < n → c < w
+        → clippedRows max l (r * p .geom .stride + (b - 200003)) (p .geom .stride) i c ≡ copyFrom max p b y0 i c
+    unfolding clippedRows clipped copyFrom
+    band-copy i c ni cw = ap (λ (v : ℕ). min v max) (band-at i c ni cw)
 
 -- rows of one phase over a list that has what eight taps read are the horizontal pass in steps of 16
 pub even-row : (max : ℕ) (taps : ℕ → ℕ → ℤ) (p : Lent) (l : List ℕ) (s line start y0 w n : ℕ)

@@ -74,7 +74,8 @@ chunk-fits n stride w len i m h lt e =
     inside : (i n m : ℕ) → i < n → m ≡ min (n - i) 8 → i + (m - 1) < n
     inside i n m lt e = omega arith
 
-across-on : (max : ℕ) (taps : ℕ → ℕ → ℤ) (p : Lent) (start step y0 i r c : ℕ)
+-- a pass from the lifted row y0 + i on
+pub across-on : (max : ℕ) (taps : ℕ → ℕ → ℤ) (p : Lent) (start step y0 i r c : ℕ)
     → acrossFrom max taps p start step (y0 + i) r c ≡ acrossFrom max taps p start step y0 (i + r) c
 unfolding acrossFrom
 across-on max taps p start step y0 i r c = rw (add-assoc y0 i r) refl

@@ -96,7 +96,7 @@ fn rows_held<'a>(
     }
 }
 
-fn unheld(b: usize, n: usize, m: usize) -> bool
+pub fn unheld(b: usize, n: usize, m: usize) -> bool
     requires { ⌜ (b ≤ 400003) × (n ≤ 134) ⌝ }
     ensures { λ r. ⌜ r ≡ Lifted.unheld b n m ⌝ }
 {
@@ -107,14 +107,14 @@ fn unheld(b: usize, n: usize, m: usize) -> bool
 }
 
 // All of n rows from e on stand in one of the bands, of which the upper one has k.
-fn whole(e: usize, n: usize, k: usize) -> bool
+pub fn whole(e: usize, n: usize, k: usize) -> bool
     requires { ⌜ (e ≤ 200000) × (n ≤ 134) ⌝ }
     ensures { λ r. ⌜ r ≡ (leb (e + n) k || leb k e) ⌝ }
 {
     (e + n <= k) | (k <= e)
 }
 
-fn band_of<'a>(upper: &'a [u16], lower: &'a [u16], first: bool) -> &'a [u16]
+pub fn band_of<'a>(upper: &'a [u16], lower: &'a [u16], first: bool) -> &'a [u16]
     ensures { λ r. ⌜ now r ≡ cond first (now (upper .entry)) (now (lower .entry)) ⌝ }
 {
     if first {
@@ -123,7 +123,7 @@ fn band_of<'a>(upper: &'a [u16], lower: &'a [u16], first: bool) -> &'a [u16]
     lower
 }
 
-fn row_in(e: usize, k: usize) -> usize
+pub fn row_in(e: usize, k: usize) -> usize
     ensures { λ r. ⌜ r ≡ cond (ltb e k) e (e - k) ⌝ }
 {
     if e < k {
@@ -167,7 +167,7 @@ fn pass_copied<'a>(
 }
 
 // The held samples of m lifted columns from b on, of n rows from the lifted row y0 on: lines of 71.
-fn gather_rows<'a>(
+pub fn gather_rows<'a>(
     upper: &'a [u16],
     lower: &'a [u16],
     pw: usize,
@@ -310,7 +310,7 @@ fn pass_even<'a>(
 }
 
 // The horizontal pass, whatever the columns: whole ones in steps of 16 are copies and need no taps.
-fn pass_rows<'a>(
+pub fn pass_rows<'a>(
     upper: &'a [u16],
     lower: &'a [u16],
     pw: usize,
@@ -500,7 +500,7 @@ fn pass_down_mean(
 }
 
 // The first h rows of the room, averaged into the output.
-fn rows_averaged(room: &[u16], w: usize, h: usize, out: &mut [u16], stride: usize)
+pub fn rows_averaged(room: &[u16], w: usize, h: usize, out: &mut [u16], stride: usize)
     requires { ⌜ (w ≤ 64) × (h ≤ 64) × (8576 ≤ length (now room)) × (w ≤ stride) ⌝ }
     requires { ⌜ holds h stride w (length (now out)) ≡ true ⌝ }
     ensures { λ _. ⌜ now (out .exit) ≡ paint (now (out .entry)) stride w h (meanWith (now (out .entry)) stride (roomAt (now (room .entry)))) ⌝ }
