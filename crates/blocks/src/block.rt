@@ -14,6 +14,7 @@ ghost use Rattle.blocks.specs.Block.{call, fromRef, ref, value};
 ghost use Rattle.blocks.specs.Passed.{Legal, Taken};
 use base::Sixteenth;
 use base::natural;
+use pair_passes::pair_block;
 use passes::block;
 use passes::block_mean;
 use planes::PlaneGeom;
@@ -52,6 +53,13 @@ fn top(shape: BlockShape) -> u16
     (4095u32 >> (12 - shape.depth)) as u16
 }
 
+// Whether a block has passes of its own: filter 3 reads two columns and rows where the others read eight.
+fn by_pairs(shape: BlockShape) -> bool
+    ensures { λ r. ⌜ (r ≡ true → shape .filter ≡ 3) ⌝ }
+{
+    shape.filter == 3
+}
+
 // An accepted block from one reference.
 pub fn predict_one<'a>(
     shape: BlockShape,
@@ -68,21 +76,50 @@ pub fn predict_one<'a>(
     ensures { λ _. ⌜ now (out .exit) ≡ paint (now (out .entry)) stride (shape .w) (shape .h)
         (fromRef shape (ref (lent geom (now (upper .entry)) (now (lower .entry))) from)) ⌝ }
 {
+    let pw = natural(geom.width);
+    let ph = natural(geom.height);
+    let sx = lift(from.start_x);
+    let stepx = natural(from.step_x.0);
+    let sy = lift(from.start_y);
+    let stepy = natural(from.step_y.0);
+    let max = top(shape);
+    if by_pairs(shape) {
+        pair_block(
+            upper,
+            lower,
+            pw,
+            ph,
+            geom.stride,
+            geom.upper_rows,
+            sx,
+            stepx,
+            sy,
+            stepy,
+            shape.w,
+            shape.h,
+            max,
+            false,
+            room,
+            out,
+            stride,
+        );
+        return;
+    }
     block(
         upper,
         lower,
-        natural(geom.width),
-        natural(geom.height),
+        pw,
+        ph,
         geom.stride,
         geom.upper_rows,
-        lift(from.start_x),
-        natural(from.step_x.0),
-        lift(from.start_y),
-        natural(from.step_y.0),
+        sx,
+        stepx,
+        sy,
+        stepy,
         shape.filter,
         shape.w,
         shape.h,
-        top(shape),
+        max,
         room,
         out,
         stride,
@@ -105,21 +142,50 @@ pub fn predict_two<'a>(
     ensures { λ _. ⌜ now (out .exit) ≡ paint (now (out .entry)) stride (shape .w) (shape .h)
         (meanWith (now (out .entry)) stride (fromRef shape (ref (lent geom (now (upper .entry)) (now (lower .entry))) from))) ⌝ }
 {
+    let pw = natural(geom.width);
+    let ph = natural(geom.height);
+    let sx = lift(from.start_x);
+    let stepx = natural(from.step_x.0);
+    let sy = lift(from.start_y);
+    let stepy = natural(from.step_y.0);
+    let max = top(shape);
+    if by_pairs(shape) {
+        pair_block(
+            upper,
+            lower,
+            pw,
+            ph,
+            geom.stride,
+            geom.upper_rows,
+            sx,
+            stepx,
+            sy,
+            stepy,
+            shape.w,
+            shape.h,
+            max,
+            true,
+            room,
+            out,
+            stride,
+        );
+        return;
+    }
     block_mean(
         upper,
         lower,
-        natural(geom.width),
-        natural(geom.height),
+        pw,
+        ph,
         geom.stride,
         geom.upper_rows,
-        lift(from.start_x),
-        natural(from.step_x.0),
-        lift(from.start_y),
-        natural(from.step_y.0),
+        sx,
+        stepx,
+        sy,
+        stepy,
         shape.filter,
         shape.w,
         shape.h,
-        top(shape),
+        max,
         room,
         out,
         stride,

@@ -1,17 +1,18 @@
 -- `blocks::block::predict_one` meets its contract: lifted positions are the signed ones. Assumes nothing.
-use mathlib.Core.Path.{ap, _∙_}
+use mathlib.Core.Path.{sym, ap, _∙_}
 use native.Mathlib.Omega.{arith}
-use borrow.Author.Needs.{needs}
 use Rattle.base.specs.Position.{toN}
+use Rattle.base.proofs.Casts.{read-back}
 use Rattle.base.proofs.Lift.{Start}
 use Rattle.base.proofs.Painted.{paint-same}
-use Rattle.blocks.specs.Sample.{across}
+use Rattle.base.proofs.Tests.{clash}
 use Rattle.planes.specs.Plane.{lent, fits}
+use Rattle.blocks.specs.Sample.{across}
 use Rattle.blocks.specs.Block.{ref}
-use Rattle.blocks.proofs.Facts.{Facts, legal-says}
-use Rattle.blocks.proofs.Depths.{depth-top}
 use Rattle.blocks.proofs.Bridge.{bridge}
-use Rattle.base.proofs.Casts.{read-back}
+use Rattle.blocks.proofs.Depths.{depth-top}
+use Rattle.blocks.proofs.Facts.{Facts, legal-says}
+use borrow.Author.Needs.{needs}
 use Rattle.blocks.proofs.block.predict_one.Statement.{statement}
 use Rattle.blocks.proofs.block.predict_one.Tie as tie
 
@@ -43,10 +44,76 @@ natural-requires-4 c κs = search needs
 top-requires : tie.Need-top-requires
 top-requires c κs = search needs
 
+by-pairs-requires : tie.Need-by-pairs-requires
+by-pairs-requires c κs = search needs
+
+pair-block-requires : tie.Need-pair-block-requires
+unfolding fits
+pair-block-requires c κs =
+    let i = c .before .before in
+    let t = i .before .before in
+    let n4 = t .before in
+    let l2 = n4 .before .before in
+    let n3 = l2 .before in
+    let l1 = n3 .before .before in
+    let n2 = l1 .before in
+    let n1 = n2 .before .before in
+    let s = entry n1 in
+    let a = s .args in
+    let g = n1 .before .struct-told .given in
+    let z = n3 .before .struct-told3 .given in
+    let ew = n1 .natural .ensures ∙ ap toN (read-back (a .geom .width) (g .0 .1)) in
+    let eh = n2 .natural2 .ensures ∙ ap toN (read-back (a .geom .height) (g .1 .0 .1)) in
+    let ex = n3 .natural3 .ensures ∙ ap toN (read-back (a .from .«step_x» .0) (z .1 .1 .0 .1 .1 .0 .1)) in
+    let ey = n4 .natural4 .ensures ∙ ap toN (read-back (a .from .«step_y» .0) (z .1 .1 .1 .0 .1 .1 .0 .1)) in
+    let f = facts s in
+    let lx = l1 .lift .ensures .1 in
+    let ly = l2 .lift2 .ensures .1 in
+    rw (ew, eh) (
+      omega (arith, f .filter, f .w, f .h, f .across, f .down, lx, ly, ex, ey),
+      (
+        (omega (arith, f .width), omega (arith, f .height), omega (arith, s .pre .1), λ no. clash no),
+        (s .pre .0 .bands, (s .pre .1 .0, rw (t .top .ensures) (depth-top (a .shape) (s .pre .0 .filter)))),
+      ),
+    )
+
+same-length : tie.Need-same-length
+same-length c = search needs
+
+same-length-2 : tie.Need-same-length-2
+same-length-2 c = search needs
+
+returns : tie.Need-returns
+returns c =
+    let b1 = c .before .before .before in
+    let b = b1 .before in
+    let i = b .before .before .before in
+    let t = i .before .before in
+    let n4 = t .before in
+    let l2 = n4 .before .before in
+    let n3 = l2 .before in
+    let l1 = n3 .before .before in
+    let n2 = l1 .before in
+    let n1 = n2 .before .before in
+    let s = entry n1 in
+    let a = s .args in
+    let g = n1 .before .struct-told .given in
+    let z = n3 .before .struct-told3 .given in
+    let ew = n1 .natural .ensures ∙ ap toN (read-back (a .geom .width) (g .0 .1)) in
+    let eh = n2 .natural2 .ensures ∙ ap toN (read-back (a .geom .height) (g .1 .0 .1)) in
+    let ex = n3 .natural3 .ensures ∙ ap toN (read-back (a .from .«step_x» .0) (z .1 .1 .0 .1 .1 .0 .1)) in
+    let ey = n4 .natural4 .ensures ∙ ap toN (read-back (a .from .«step_y» .0) (z .1 .1 .1 .0 .1 .1 .0 .1)) in
+    let three = i .before .by-pairs .ensures (i .if1 .taken) in
+    rw (ew, eh, ex, ey, sym three) at (b .pair-block .ensures)
+    ∙ paint-same _ _ _ _ _ _
+    (λ r k rh kw.
+    bridge (a .shape) (a .geom) (a .from) (a .upper .now) (a .lower .now) _ _ _ r k (t .top .ensures) (l1 .lift .ensures .0) (l2 .lift2 .ensures .0))
+
 block-requires : tie.Need-block-requires
 unfolding fits
 block-requires c κs =
-    let t = c .before .before in
+    let i = c .before .before in
+    let t = i .before .before in
     let n4 = t .before in
     let l2 = n4 .before .before in
     let n3 = l2 .before in
@@ -69,17 +136,18 @@ block-requires c κs =
       (omega (arith, f .width, f .height, s .pre .1), (s .pre .0 .bands, (s .pre .1 .0, rw (t .top .ensures) (depth-top (a .shape) (s .pre .0 .filter))))),
     )
 
-same-length : tie.Need-same-length
-same-length c = search needs
+same-length-3 : tie.Need-same-length-3
+same-length-3 c = search needs
 
-same-length-2 : tie.Need-same-length-2
-same-length-2 c = search needs
+same-length-4 : tie.Need-same-length-4
+same-length-4 c = search needs
 
-returns : tie.Need-returns
-returns c =
+returns-2 : tie.Need-returns-2
+returns-2 c =
     let b1 = c .before .before .before in
     let b = b1 .before in
-    let t = b .before .before .before in
+    let i = b .before .before .before in
+    let t = i .before .before in
     let n4 = t .before in
     let l2 = n4 .before .before in
     let n3 = l2 .before in
@@ -110,7 +178,12 @@ predict-one-spec =
     lift-requires-2
     natural-requires-4
     top-requires
-    block-requires
+    by-pairs-requires
+    pair-block-requires
     same-length
     same-length-2
-    returns)
+    returns
+    block-requires
+    same-length-3
+    same-length-4
+    returns-2)
