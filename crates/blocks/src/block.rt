@@ -2,6 +2,7 @@
 ghost use mathlib.Core.Path.{_≡_};
 ghost use mathlib.Core.Bool.{true};
 ghost use Prim.Native.Nat.{_-_, _^_, _≤_};
+ghost use lib.Dec.{eqb};
 ghost use lib.IntN.{natAbs};
 ghost use lib.ListN.{length};
 ghost use Rattle.base.specs.Paint.{paint};
@@ -55,7 +56,7 @@ fn top(shape: BlockShape) -> u16
 
 // Whether a block has passes of its own: filter 3 reads two columns and rows where the others read eight.
 fn by_pairs(shape: BlockShape) -> bool
-    ensures { λ r. ⌜ (r ≡ true → shape .filter ≡ 3) ⌝ }
+    ensures { λ r. ⌜ r ≡ eqb (shape .filter) 3 ⌝ }
 {
     shape.filter == 3
 }

@@ -3,7 +3,7 @@
 use mathlib.Core.Path.{_≡_, refl, sym, ap, subst, _∙_}
 use mathlib.Core.List.{List}
 use Prim.Native.Nat.{ℕ, zero, suc, _+_, _-_, _*_, _/_, _%_, _<_, _≤_, min}
-use native.Mathlib.Nat.{add-mul, mul-assoc, mul-le-mul-left, add-zero, add-assoc, not-suc-le-zero}
+use native.Mathlib.Nat.{add-mul, mul-assoc, mul-le-mul-left, add-zero, add-assoc}
 use native.Mathlib.Omega.{arith}
 use lib.IntN.{ℤ, pos, _+ℤ_, _*ℤ_}
 use lib.ListN.{length, getD}
@@ -155,9 +155,6 @@ again-turn {l} {at} {w} {f} {now} {next} c m o g s mw fit place written same =
 
 pub weaker : {v u : ℕ} {l : List ℕ} {b m : ℕ} → v ≤ u → UpTo v l b m → UpTo u l b m
 weaker h t = record { le = λ j lt. let x = t .le j lt in omega arith }
-
-pub top-none : (u : ℕ) (l : List ℕ) (b : ℕ) → UpTo u l b 0
-top-none u l b = record { le = λ j lt. absurd (not-suc-le-zero lt) }
 
 -- two runs side by side
 pub top-join : {u : ℕ} {l : List ℕ} {b c : ℕ} (m n : ℕ) → UpTo u l b m → UpTo u l c n → c ≡ b + m → UpTo u l b (m + n)

@@ -1,11 +1,11 @@
 -- `pairs::pairs::top_of_sixteens` meets its contract. The loop keeps up that no sample so far is above the top. Assumes nothing.
 use mathlib.Core.Path.{_≡_}
 use Prim.Native.Nat.{_+_, _-_, _≤_, min}
-use native.Mathlib.Nat.{not-suc-le-zero}
 use native.Mathlib.Omega.{arith}
 use borrow.Author.Needs.{needs}
 use Rattle.taps.specs.Kernel.{UpTo}
-use Rattle.pairs.proofs.Two.{weaker, top-none, top-again}
+use Rattle.lanes.proofs.Tops.{top-none}
+use Rattle.pairs.proofs.Two.{weaker, top-again}
 use Rattle.pairs.proofs.pairs.top_of_sixteens.Statement.{statement}
 use Rattle.pairs.proofs.pairs.top_of_sixteens.Tie as tie
 
