@@ -3,7 +3,7 @@
  * Every call takes any input. It answers with a number: 0 where the input is accepted, else the lowest number below whose row applies.
  * Refused, a call returns zeros beside its answer and changes no buffer that was lent to it. No call allocates, keeps a pointer, or has
  * state of its own, so calls may run in any number of threads, where no out or room of one is lent to another at the time.
- * A bool is C's own: 0 or 1 and no other byte. docs/HOST.md is the guide, with an example.
+ * A bool is C's own: 0 or 1 and no other byte. docs/HOST.md is the guide, with examples.
  */
 #ifndef KNOBSPINDLE_H
 #define KNOBSPINDLE_H
@@ -215,6 +215,13 @@ typedef struct {
     size_t width, height;
 } knobspindle_dest_geom;
 
+/* How far a block can reach: the first and the last column and row of a reference plane that matter to its prediction. Refused, all are 0. What the
+ * other samples hold makes no difference, but they have to be there: a band is lent at its whole length, and nothing may write to it meanwhile. */
+typedef struct {
+    uint32_t answer;
+    size_t first_col, last_col, first_row, last_row;
+} knobspindle_reach;
+
 /* Numbers of working room that knobspindle_block_inter_predict and knobspindle_predict_inter ask for. */
 #define KNOBSPINDLE_ROOM 8576
 
@@ -272,6 +279,11 @@ uint32_t knobspindle_block_inter_predict(knobspindle_block_shape shape, knobspin
                                          size_t upper2_len, const uint16_t *lower2, size_t lower2_len, uint16_t *room, size_t room_len,
                                          uint16_t *out, size_t out_len, size_t stride);
 
+/* How far a block of w x h samples reaches in a plane of width x height: columns floor(start_x / 16) - 3 to
+ * floor((start_x + step_x x (w - 1)) / 16) + 4, rows alike, each end held into the plane. Samples outside, bands' ends and what stands between
+ * rows included, make no difference to knobspindle_block_inter_predict, whatever its filter. Answers 1, 5 and 6. */
+knobspindle_reach knobspindle_block_reach(size_t w, size_t h, int32_t width, int32_t height, knobspindle_stepping from);
+
 /* The whole prediction of a block: its vectors selected, clamped and scaled, its samples predicted from list 0 or, where args.average is true,
  * from both lists and averaged, into the destination plane out. Only the part of the block inside the destination is written; a block wholly
  * beyond it is accepted and writes nothing. Nothing of list 1 is looked at without averaging; zeros and NULL, 0 do. out and room overlap
@@ -281,6 +293,13 @@ uint32_t knobspindle_predict_inter(knobspindle_inter_pred_args args, knobspindle
                                    const uint16_t *lower, size_t lower_len, knobspindle_ref_geom geom2, const uint16_t *upper2,
                                    size_t upper2_len, const uint16_t *lower2, size_t lower2_len, uint16_t *room, size_t room_len,
                                    uint16_t *out, size_t out_len, knobspindle_dest_geom dest);
+
+/* How far a whole prediction reaches in the plane of list 0's reference or, where second is true, of list 1's: the arguments of
+ * knobspindle_predict_inter without its buffers, and the visible size of that reference's frame in luma samples. filter, depth and average are
+ * not looked at, nor is the other list. The rectangle is that of the whole block; of one that leaves the destination, ask with the w and h of
+ * the part inside. Answers 1, 2, 5, 6 and 9. */
+knobspindle_reach knobspindle_inter_reach(knobspindle_inter_pred_args args, knobspindle_block_grid grid, knobspindle_frame_geom frame,
+                                          knobspindle_block_mvs mvs, bool second, int32_t ref_width, int32_t ref_height);
 
 #ifdef __cplusplus
 }

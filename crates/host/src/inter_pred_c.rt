@@ -1,5 +1,7 @@
-// The call of crate prediction.
+// The calls of crate prediction.
+ghost use mathlib.Core.Path.{_≡_};
 ghost use Rattle.host.specs.InC as InC;
+ghost use Rattle.reach_inter.specs.InterReach.{interReach};
 ghost use Rattle.prediction.specs.Predict.{source, whole, Outcome};
 use crate::vectors_c::BlockMvs;
 use crate::vectors_c::lists;
@@ -7,6 +9,7 @@ use judgement::DestGeom;
 use judgement::FrameGeom;
 use judgement::InterPredArgs;
 use judgement::RefGeom;
+use samples::Reach;
 use vectors::BlockGrid;
 
 #[no_mangle]
@@ -46,4 +49,20 @@ pub extern "C" fn knobspindle_predict_inter<'a>(
         out,
         dest,
     )
+}
+
+#[no_mangle]
+pub extern "C" fn knobspindle_inter_reach(
+    args: InterPredArgs,
+    grid: BlockGrid,
+    frame: FrameGeom,
+    mvs: BlockMvs,
+    second: bool,
+    ref_width: i32,
+    ref_height: i32,
+) -> Reach
+    ensures { λ r. ⌜ r ≡ interReach args grid frame (InC.lists mvs) second «ref_width» «ref_height» ⌝ }
+{
+    let of = lists(mvs);
+    prediction::inter_reach(args, grid, frame, of, second, ref_width, ref_height)
 }

@@ -3,9 +3,11 @@ ghost use mathlib.Core.Path.{_≡_};
 ghost use Prim.Native.Nat.{_≤_};
 ghost use Rattle.host.specs.InC as InC;
 ghost use Rattle.planes.specs.Plane.{lent};
+ghost use Rattle.reach.specs.Rectangle.{blockReach};
 ghost use Rattle.samples.specs.Call.{call, ref, Outcome};
 use samples::BlockShape;
 use samples::PlaneGeom;
+use samples::Reach;
 use samples::Stepping;
 
 // Where a row stands: in the upper band (0) or the lower (1), from which sample on, and how many samples.
@@ -96,4 +98,17 @@ pub extern "C" fn knobspindle_block_inter_predict<'a>(
         out,
         stride,
     )
+}
+
+#[no_mangle]
+pub extern "C" fn knobspindle_block_reach(
+    w: usize,
+    h: usize,
+    width: i32,
+    height: i32,
+    from: Stepping,
+) -> Reach
+    ensures { λ r. ⌜ r ≡ blockReach w h width height from ⌝ }
+{
+    samples::block_reach(w, h, width, height, from)
 }

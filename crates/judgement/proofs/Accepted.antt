@@ -16,7 +16,7 @@ use Rattle.base.specs.declared.units.Eighth.{Eighth}
 use Rattle.base.specs.declared.units.Mv.{Mv}
 use Rattle.base.proofs.Answered.{unless-zero}
 use Rattle.base.proofs.Tests.{clash, and-both, and-three, and-four, within-both, abs-between}
-use Rattle.vectors.specs.BlockMvs.{legalList, legalBlock}
+use Rattle.vectors.specs.BlockMvs.{BlockMvs, legalList, legalBlock}
 use Rattle.vectors.specs.Select.{selectMv, selectRows, chosen, allFour, listNumber, partnered}
 use Rattle.vectors.specs.Clamp.{clampMv, clampRows, onAxis}
 use Rattle.vectors.specs.Scale.{scaleMv, scaleRows, placed, stepAxis}
@@ -24,13 +24,17 @@ use Rattle.selection.proofs.Near.{chosen-legal}
 use Rattle.scaling.proofs.Scaled.{start-near, step-in}
 use Rattle.vectors.proofs.Near.{clamped-legal}
 use Rattle.vectors.proofs.Accepted.{scale-ok}
+use Rattle.vectors.specs.declared.inter_mv.BlockGrid.{BlockGrid}
 use Rattle.planes.specs.Plane.{fits}
 use Rattle.blocks.specs.Block.{also, kind, starts}
 use Rattle.blocks.specs.declared.block.Stepping.{Stepping}
-use Rattle.judgement.specs.Whole.{Source, Whole, steppingOf, scaleGeom, planeOf, shapeOf, allowedRef, destFits, blockOk, numberOf}
+use Rattle.judgement.specs.Whole.{Source, Whole, stepping, steppingOf, scaleGeom, planeOf, shapeOf, allowedRef, destFits, blockOk, numberOf}
+use Rattle.judgement.specs.declared.judging.InterPredArgs.{InterPredArgs}
+use Rattle.judgement.specs.declared.judging.FrameGeom.{FrameGeom}
+use Rattle.judgement.specs.declared.judging.RefGeom.{RefGeom}
 use Rattle.judgement.specs.declared.judging.Led.{Led}
 use Rattle.judgement.specs.declared.judging.Judged.{Judged}
-use Rattle.judgement.specs.Chain.{lead, leadOne, leadTwo, Judgement}
+use Rattle.judgement.specs.Chain.{lead, Judgement}
 use Rattle.judgement.proofs.Joined.{also-yes}
 
 -- what each row of the table says of an accepted call, with a destination of n samples and a room of m
@@ -108,94 +112,103 @@ step-between : (reference frame : ℤ) → (1 ≤ toN (stepAxis reference frame)
 unfolding between stepAxis
 step-between reference frame e = rw (le-leb 1 _ (e .0), le-leb _ 32 (e .1))
 
--- a list that is looked at: its vectors are legal and its reference is allowed
-pub record Looked (a : Whole) (second : Bool) (s : Source) : Type 0 where
-  pub vectors : legalList (a .mvs) (listNumber second) ≡ true
-  pub size : allowedRef (a .frame) (s .geom) ≡ true
+-- a list that is looked at, in a call whose other tests passed: its vectors are legal and its reference is allowed
+pub record Looked (b : InterPredArgs) (g : BlockGrid) (f : FrameGeom) (mvs : BlockMvs) (second : Bool) (s : RefGeom) : Type 0 where
+  pub block : blockOk b g f ≡ true
+  pub grid : (onAxis (g .«mi_rows») (g .«mi_row») && onAxis (g .«mi_cols») (g .«mi_col»)) ≡ true
+  pub size : allowedRef f s ≡ true
+  pub place : (placed (b .x) && placed (b .y)) ≡ true
+  pub vectors : legalList mvs (listNumber second) ≡ true
 
-module _ (a : Whole) (n m : ℕ) (ok : Accepted a n m) (second : Bool) (s : Source) (look : Looked a second s) where
+module _ (b : InterPredArgs) (g : BlockGrid) (f : FrameGeom) (mvs : BlockMvs) (second : Bool) (s : RefGeom) (look : Looked b g f mvs second s) where
   abbrev sx : Bool
-  sx = a .frame .«subsampling_x»
+  sx = f .«subsampling_x»
 
   abbrev sy : Bool
-  sy = a .frame .«subsampling_y»
+  sy = f .«subsampling_y»
 
   abbrev v : Mv
-  v = chosen (a .mvs) (listNumber second) (a .args .plane) (a .grid .«mi_size») (a .args .block) sx sy
+  v = chosen mvs (listNumber second) (b .plane) (g .«mi_size») (b .block) sx sy
 
   abbrev of : List (List Eighth)
-  of = getD (a .mvs) (listNumber second) []
+  of = getD mvs (listNumber second) []
 
   -- the selection is not refused, though it is handed the one list twice
   twice : legalBlock (of ∷ of ∷ []) ≡ true
   unfolding legalBlock legalList
   twice = both-true (look .vectors) (look .vectors)
 
-  select-zero : answer (selectRows (of ∷ of ∷ []) (a .args .plane) (a .grid .«mi_size») (a .args .block) sx sy) ≡ 0
+  select-zero : answer (selectRows (of ∷ of ∷ []) (b .plane) (g .«mi_size») (b .block) sx sy) ≡ 0
   unfolding blockOk
-  select-zero = zero-two _ _ (ok .block) twice
+  select-zero = zero-two _ _ (look .block) twice
 
   -- and chooses the definition's vector
-  selected : selectMv (of ∷ of ∷ []) false (a .args .plane) (a .grid .«mi_size») (a .args .block) sx sy .mv ≡ v
+  selected : selectMv (of ∷ of ∷ []) false (b .plane) (g .«mi_size») (b .block) sx sy .mv ≡ v
   unfolding selectMv chosen allFour
   selected = given _ _ _ select-zero
 
   -- where the scaling leads from a vector
   abbrev onward : Mv → Stepping
   onward u =
-      let q = scaleMv (scaleGeom (a .frame) (s .geom)) (a .args .plane) (a .args .x) (a .args .y) (clampMv (a .grid) u (a .args .plane) sx sy .mv) in
+      let q = scaleMv (scaleGeom f s) (b .plane) (b .x) (b .y) (clampMv g u (b .plane) sx sy .mv) in
       record { «start_x» = q .«start_x»; «start_y» = q .«start_y»; «step_x» = q .«step_x»; «step_y» = q .«step_y» }
 
-  pub leads : lead (a .args) (a .grid) (a .frame) (s .geom) of .from ≡ steppingOf a second s
-  unfolding lead steppingOf
+  pub leads : lead b g f s of .from ≡ stepping b g f mvs second s
+  unfolding lead stepping
   leads = ap onward selected
 
   -- ---- what it leads to
 
-  tests : (leb (a .grid .«mi_size») 12 ≡ true) × ((leb (a .args .block) 3 ≡ true) × ((leb (a .args .plane) 2 ≡ true)
-      × (partnered (a .args .plane) (a .grid .«mi_size») (a .args .block) sx sy ≡ true)))
+  tests : (leb (g .«mi_size») 12 ≡ true) × ((leb (b .block) 3 ≡ true) × ((leb (b .plane) 2 ≡ true)
+      × (partnered (b .plane) (g .«mi_size») (b .block) sx sy ≡ true)))
   unfolding blockOk
-  tests = and-four _ _ _ _ (ok .block)
+  tests = and-four _ _ _ _ (look .block)
 
-  clamp-zero : answer (clampRows (a .grid) v (a .args .plane)) ≡ 0
+  clamp-zero : answer (clampRows g v (b .plane)) ≡ 0
   clamp-zero =
       let t = tests in
-      let legal = chosen-legal (a .mvs) (listNumber second) (a .args .plane) (a .grid .«mi_size») (a .args .block) sx sy
-      (omega (arith, leb-true (a .args .block) 3 (t .1 .0))) (t .1 .1 .1) (look .vectors) in
-      zero-three _ _ _ (both-true (t .0) (t .1 .1 .0)) (ok .grid) legal
+      let legal = chosen-legal mvs (listNumber second) (b .plane) (g .«mi_size») (b .block) sx sy
+      (omega (arith, leb-true (b .block) 3 (t .1 .0))) (t .1 .1 .1) (look .vectors) in
+      zero-three _ _ _ (both-true (t .0) (t .1 .1 .0)) (look .grid) legal
 
-  scale-zero : let p = clampMv (a .grid) v (a .args .plane) sx sy .mv in
-      answer (scaleRows (scaleGeom (a .frame) (s .geom)) (a .args .plane) (a .args .x) (a .args .y) p) ≡ 0
+  scale-zero : let p = clampMv g v (b .plane) sx sy .mv in answer (scaleRows (scaleGeom f s) (b .plane) (b .x) (b .y) p) ≡ 0
   unfolding allowedRef
-  scale-zero =
-      zero-four _ _ _ _ (tests .1 .1 .0) (look .size) (ok .place) (clamped-legal (a .grid) v (a .args .plane) sx sy clamp-zero)
+  scale-zero = zero-four _ _ _ _ (tests .1 .1 .0) (look .size) (look .place) (clamped-legal g v (b .plane) sx sy clamp-zero)
 
   -- 'its own start and step can't be refused below'
-  pub starts-taken : starts (steppingOf a second s) ≡ true
-  unfolding starts steppingOf scaleMv
+  pub starts-taken : starts (stepping b g f mvs second s) ≡ true
+  unfolding starts stepping scaleMv
   starts-taken =
-      let f = a .frame in
-      let g = s .geom in
-      let p = clampMv (a .grid) v (a .args .plane) sx sy .mv in
-      let k = scale-ok (scaleGeom f g) (a .args .plane) (a .args .x) (a .args .y) p scale-zero in
-      let x = start-near (g .«frame_width») (f .width) (a .args .x) (p .col .0) (a .args .plane) sx (k .across) (k .x-ok) (k .col) in
-      let y = start-near (g .«frame_height») (f .height) (a .args .y) (p .row .0) (a .args .plane) sy (k .down) (k .y-ok) (k .row) in
-      let i = step-in (g .«frame_width») (f .width) (k .across) in
-      let j = step-in (g .«frame_height») (f .height) (k .down) in
+      let p = clampMv g v (b .plane) sx sy .mv in
+      let k = scale-ok (scaleGeom f s) (b .plane) (b .x) (b .y) p scale-zero in
+      let x = start-near (s .«frame_width») (f .width) (b .x) (p .col .0) (b .plane) sx (k .across) (k .x-ok) (k .col) in
+      let y = start-near (s .«frame_height») (f .height) (b .y) (p .row .0) (b .plane) sy (k .down) (k .y-ok) (k .row) in
+      let i = step-in (s .«frame_width») (f .width) (k .across) in
+      let j = step-in (s .«frame_height») (f .height) (k .down) in
       rw scale-zero
       (both-true
       (both-true
       (both-true (abs-between 2999999 _ x) (abs-between 2999999 _ y))
-      (step-between (g .«frame_width») (f .width) i))
-      (step-between (g .«frame_height») (f .height) j))
+      (step-between (s .«frame_width») (f .width) i))
+      (step-between (s .«frame_height») (f .height) j))
 
 -- ---- both lists
 
-pub look-one : (a : Whole) (n m : ℕ) → Accepted a n m → Looked a false (a .one)
-look-one a n m ok = record { vectors = ok .vectors; size = ok .one }
+abbrev LookedIn : Whole → Bool → Source → Type 0
+LookedIn a second s = Looked (a .args) (a .grid) (a .frame) (a .mvs) second (s .geom)
 
-pub look-two : (a : Whole) (n m : ℕ) → Accepted a n m → a .args .average ≡ true → Looked a true (a .two)
-look-two a n m ok e = record { vectors = yes (a .args .average) _ e (ok .vectors2); size = yes (a .args .average) _ e (ok .two) }
+pub look-one : (a : Whole) (n m : ℕ) → Accepted a n m → LookedIn a false (a .one)
+look-one a n m ok = record { block = ok .block; grid = ok .grid; size = ok .one; place = ok .place; vectors = ok .vectors }
+
+pub look-two : (a : Whole) (n m : ℕ) → Accepted a n m → a .args .average ≡ true → LookedIn a true (a .two)
+look-two a n m ok e =
+    record {
+      block = ok .block;
+      grid = ok .grid;
+      size = yes (a .args .average) _ e (ok .two);
+      place = ok .place;
+      vectors = yes (a .args .average) _ e (ok .vectors2);
+    }
   where
     yes : (t u : Bool) → t ≡ true → also t u ≡ true → u ≡ true
     yes true u e h = h
@@ -203,11 +216,11 @@ look-two a n m ok e = record { vectors = yes (a .args .average) _ e (ok .vectors
 
 -- where an accepted call is told to start: the definition's starts and steps
 pub told-one : (a : Whole) (n m : ℕ) (r : Judged) → Judgement a n m r → numberOf a n m ≡ 0 → r .from ≡ steppingOf a false (a .one)
-told-one a n m r j e = let ok = accepted a n m e in j .from ∙ leads a n m ok false (a .one) (look-one a n m ok)
+told-one a n m r j e = let ok = accepted a n m e in j .from ∙ leads (a .args) (a .grid) (a .frame) (a .mvs) false (a .one .geom) (look-one a n m ok)
 
 pub told-two : (a : Whole) (n m : ℕ) (r : Judged) → Judgement a n m r → numberOf a n m ≡ 0 → a .args .average ≡ true
     → r .from2 ≡ steppingOf a true (a .two)
 told-two a n m r j e t =
     let ok = accepted a n m e in
     let yes = also-yes (a .args) (a .grid) (a .frame) (a .two .geom) (getD (a .mvs) 1 []) t in
-    j .from2 ∙ ap (λ (l : Led). l .from) (sym yes) ∙ leads a n m ok true (a .two) (look-two a n m ok t)
+    j .from2 ∙ ap (λ (l : Led). l .from) (sym yes) ∙ leads (a .args) (a .grid) (a .frame) (a .mvs) true (a .two .geom) (look-two a n m ok t)

@@ -13,7 +13,7 @@ use Rattle.base.specs.Number.{between, within}
 use Rattle.base.specs.Position.{toN}
 use Rattle.base.proofs.Tests.{clash, and-both, and-three, and-four}
 use Rattle.base.specs.declared.units.Eighth.{Eighth}
-use Rattle.vectors.specs.BlockMvs.{legalList, legalBlock}
+use Rattle.vectors.specs.BlockMvs.{BlockMvs, legalList, legalBlock}
 use Rattle.vectors.specs.Select.{selectMv}
 use Rattle.vectors.specs.Clamp.{clampMv, onAxis}
 use Rattle.vectors.specs.Scale.{scaleMv, usable, placed}
@@ -98,7 +98,7 @@ other-sixth true false p v e f = clash f
 other-sixth false u p v e f = clash e
 
 -- two tables whose tests agree where the rows before them passed
-same-number : (t1 t2 t4 t5 t6 t7 t9 s1 s2 s5 s6 s7 s9 : Bool) → t1 ≡ s1 → (s1 ≡ true → t2 ≡ s2) → (s1 ≡ true → t5 ≡ s5)
+pub same-number : (t1 t2 t4 t5 t6 t7 t9 s1 s2 s5 s6 s7 s9 : Bool) → t1 ≡ s1 → (s1 ≡ true → t2 ≡ s2) → (s1 ≡ true → t5 ≡ s5)
     → (s1 ≡ true → s5 ≡ true → t6 ≡ s6) → (s5 ≡ true → t7 ≡ s7) → (s1 ≡ true → t9 ≡ s9)
     → unless 1 t1 (unless 2 t2 (unless 4 t4 (unless 5 t5 (unless 6 t6 (unless 7 t7 (unless 9 t9 0))))))
     ≡ unless 1 s1 (unless 2 s2 (unless 4 t4 (unless 5 s5 (unless 6 s6 (unless 7 s7 (unless 9 s9 0))))))
@@ -171,6 +171,37 @@ both-same : (t : Bool) → (t && t) ≡ t
 both-same true = refl
 both-same false = refl
 
+-- one list's calls: their answers, told by the rows of the table
+module _ (b : InterPredArgs) (g : BlockGrid) (f : FrameGeom) where
+  -- what row 1 asks beside the block's size
+  first-is : blockOk b g f ≡ true → (leb (g .«mi_size») 12 && leb (b .plane) 2 ≡ true) × (leb (b .plane) 2 ≡ true)
+  unfolding blockOk
+  first-is e =
+      let t = and-four (leb (g .«mi_size») 12) (leb (b .block) 3) (leb (b .plane) 2) _ e in
+      (rw (t .0, t .1 .1 .0), t .1 .1 .0)
+
+  pub size-at : (s : RefGeom) (l : List (List Eighth)) → blockOk b g f ≡ true → otherThan 5 (lead b g f s l .scale) ≡ allowedRef f s
+  unfolding lead scaleMv allowedRef
+  size-at s l e = other-fifth _ _ _ _ (first-is e .1)
+
+  pub start-at : (s : RefGeom) (l : List (List Eighth)) → blockOk b g f ≡ true → allowedRef f s ≡ true
+      → otherThan 6 (lead b g f s l .scale) ≡ placed (b .x) && placed (b .y)
+  unfolding lead scaleMv allowedRef
+  start-at s l e u = other-sixth _ _ _ _ (first-is e .1) u
+
+  pub grid-at : (s : RefGeom) (l : List (List Eighth)) → blockOk b g f ≡ true
+      → otherThan 2 (lead b g f s l .clamp) ≡ onAxis (g .«mi_rows») (g .«mi_row») && onAxis (g .«mi_cols») (g .«mi_col»)
+  unfolding lead clampMv
+  grid-at s l e = other-second _ _ _ (first-is e .0)
+
+  pub block-at : (s : RefGeom) (l : List (List Eighth)) → otherThan 1 (lead b g f s l .select) ≡ blockOk b g f
+  unfolding lead selectMv blockOk
+  block-at s l = other-first _ _
+
+  pub vector-at : (mvs : BlockMvs) (s : RefGeom) (list : ℕ) → blockOk b g f ≡ true → otherThan 9 (lead b g f s (getD mvs list []) .select) ≡ legalList mvs list
+  unfolding lead selectMv blockOk legalBlock legalList
+  vector-at mvs s list e = other-ninth _ _ e ∙ both-same _
+
 module _ (a : Whole) where
   abbrev b : InterPredArgs
   b = a .args
@@ -185,13 +216,6 @@ module _ (a : Whole) where
   abbrev pub lendings : ℕ → ℕ → Bool
   lendings n m = lends (planeOf a (a .one)) && also (b .average) (lends (planeOf a (a .two))) && destFits (a .dest) n && leb 8576 m
 
-  -- what row 1 asks beside the block's size
-  first-is : blockOk b g f ≡ true → (leb (g .«mi_size») 12 && leb (b .plane) 2 ≡ true) × (leb (b .plane) 2 ≡ true)
-  unfolding blockOk
-  first-is e =
-      let t = and-four (leb (g .«mi_size») 12) (leb (b .block) 3) (leb (b .plane) 2) _ e in
-      (rw (t .0, t .1 .1 .0), t .1 .1 .0)
-
   -- the bands, once the references are allowed
   lent-is : (n m : ℕ) → (allowedRef f (a .one .geom) && also (b .average) (allowedRef f (a .two .geom))) ≡ true
       → lendings n m ≡ (fits (planeOf a (a .one)) && also (b .average) (fits (planeOf a (a .two))) && destFits (a .dest) n && leb 8576 m)
@@ -201,37 +225,14 @@ module _ (a : Whole) where
       let two = also-same (b .average) _ _ _ (t .1) (lends-is b f (a .two .geom) (a .two .upper) (a .two .lower)) in
       rw (one, two)
 
-  -- the answers of each list's calls, told by their rows
-  size-at : (s : RefGeom) (l : List (List Eighth)) → blockOk b g f ≡ true → otherThan 5 (lead b g f s l .scale) ≡ allowedRef f s
-  unfolding lead scaleMv allowedRef
-  size-at s l e = other-fifth _ _ _ _ (first-is e .1)
-
-  start-at : (s : RefGeom) (l : List (List Eighth)) → blockOk b g f ≡ true → allowedRef f s ≡ true
-      → otherThan 6 (lead b g f s l .scale) ≡ placed (b .x) && placed (b .y)
-  unfolding lead scaleMv allowedRef
-  start-at s l e u = other-sixth _ _ _ _ (first-is e .1) u
-
-  grid-at : (s : RefGeom) (l : List (List Eighth)) → blockOk b g f ≡ true
-      → otherThan 2 (lead b g f s l .clamp) ≡ onAxis (g .«mi_rows») (g .«mi_row») && onAxis (g .«mi_cols») (g .«mi_col»)
-  unfolding lead clampMv
-  grid-at s l e = other-second _ _ _ (first-is e .0)
-
-  block-at : (s : RefGeom) (l : List (List Eighth)) → otherThan 1 (lead b g f s l .select) ≡ blockOk b g f
-  unfolding lead selectMv blockOk
-  block-at s l = other-first _ _
-
-  vector-at : (s : RefGeom) (list : ℕ) → blockOk b g f ≡ true → otherThan 9 (lead b g f s (getD (a .mvs) list []) .select) ≡ legalList (a .mvs) list
-  unfolding lead selectMv blockOk legalBlock legalList
-  vector-at s list e = other-ninth _ _ e ∙ both-same _
-
   size-two : blockOk b g f ≡ true → otherThan 5 (leadTwo a .scale) ≡ also (b .average) (allowedRef f (a .two .geom))
   unfolding leadAlso
   size-two e =
-      scale-also (b .average) _ _ refl ∙ ap (also (b .average)) (size-at (a .two .geom) (getD (a .mvs) 1 []) e)
+      scale-also (b .average) _ _ refl ∙ ap (also (b .average)) (size-at b g f (a .two .geom) (getD (a .mvs) 1 []) e)
 
   vector-two : blockOk b g f ≡ true → otherThan 9 (leadTwo a .select) ≡ also (b .average) (legalList (a .mvs) 1)
   unfolding leadAlso
-  vector-two e = select-also (b .average) _ _ refl ∙ ap (also (b .average)) (vector-at (a .two .geom) 1 e)
+  vector-two e = select-also (b .average) _ _ refl ∙ ap (also (b .average)) (vector-at b g f (a .mvs) (a .two .geom) 1 e)
 
   pub joined : (n m : ℕ) → refusal b (leadOne a) (leadTwo a) (lendings n m) ≡ numberOf a n m
   unfolding refusal numberOf Chain.kind Block.kind
@@ -241,9 +242,9 @@ module _ (a : Whole) where
       let ok : blockOk b g f && W && H ≡ true → blockOk b g f ≡ true = λ e. and-three (blockOk b g f) W H e .0 in
       let l0 = getD (a .mvs) 0 [] in
       same-number _ _ _ _ _ _ _ _ _ _ _ _ _
-      (ap (λ (t : Bool). t && W && H) (block-at (a .one .geom) l0))
-      (λ e. grid-at (a .one .geom) l0 (ok e))
-      (λ e. and-same (size-at (a .one .geom) l0 (ok e)) (size-two (ok e)))
-      (λ e u. start-at (a .one .geom) l0 (ok e) (and-both (allowedRef f (a .one .geom)) _ u .0))
+      (ap (λ (t : Bool). t && W && H) (block-at b g f (a .one .geom) l0))
+      (λ e. grid-at b g f (a .one .geom) l0 (ok e))
+      (λ e. and-same (size-at b g f (a .one .geom) l0 (ok e)) (size-two (ok e)))
+      (λ e u. start-at b g f (a .one .geom) l0 (ok e) (and-both (allowedRef f (a .one .geom)) _ u .0))
       (λ u. lent-is n m u)
-      (λ e. and-same (vector-at (a .one .geom) 0 (ok e)) (vector-two (ok e)))
+      (λ e. and-same (vector-at b g f (a .mvs) (a .one .geom) 0 (ok e)) (vector-two (ok e)))

@@ -76,14 +76,17 @@ scaleGeom f g =
     }
 
 -- 8.5.2, steps 2 to 4 for one list: its vector selected, clamped and scaled
-unfoldable pub steppingOf : Whole → Bool → Source → Stepping
-steppingOf a second s =
-    let sx = a .frame .«subsampling_x» in
-    let sy = a .frame .«subsampling_y» in
-    let v = chosen (a .mvs) (listNumber second) (a .args .plane) (a .grid .«mi_size») (a .args .block) sx sy in
-    let p = clampMv (a .grid) v (a .args .plane) sx sy .mv in
-    let q = scaleMv (scaleGeom (a .frame) (s .geom)) (a .args .plane) (a .args .x) (a .args .y) p in
+unfoldable pub stepping : InterPredArgs → BlockGrid → FrameGeom → BlockMvs → Bool → RefGeom → Stepping
+stepping b g f mvs second s =
+    let sx = f .«subsampling_x» in
+    let sy = f .«subsampling_y» in
+    let v = chosen mvs (listNumber second) (b .plane) (g .«mi_size») (b .block) sx sy in
+    let p = clampMv g v (b .plane) sx sy .mv in
+    let q = scaleMv (scaleGeom f s) (b .plane) (b .x) (b .y) p in
     record { «start_x» = q .«start_x»; «start_y» = q .«start_y»; «step_x» = q .«step_x»; «step_y» = q .«step_y» }
+
+abbrev pub steppingOf : Whole → Bool → Source → Stepping
+steppingOf a second s = stepping (a .args) (a .grid) (a .frame) (a .mvs) second (s .geom)
 
 -- "It writes only the part of the block inside the destination": of n samples from place at on, those before the end
 abbrev pub countInside : ℤ → ℕ → ℕ → ℕ

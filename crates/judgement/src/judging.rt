@@ -68,11 +68,11 @@ pub struct DestGeom {
 }
 
 // What the three calls on vectors gave for one list: their answers, and where the block starts.
-pub(crate) struct Led {
-    select: u32,
-    clamp: u32,
-    scale: u32,
-    from: Stepping,
+pub struct Led {
+    pub select: u32,
+    pub clamp: u32,
+    pub scale: u32,
+    pub from: Stepping,
 }
 
 // What a call is told of both lists.
@@ -83,7 +83,7 @@ pub struct Judged {
 }
 
 // Steps 2 to 4 of 8.5.2 for one list, whose vectors are handed down alone: the other list's are not judged here.
-fn lead(
+pub fn lead(
     args: InterPredArgs,
     grid: BlockGrid,
     frame: FrameGeom,
@@ -222,7 +222,7 @@ fn kind(filter: usize, depth: u32) -> bool
 }
 
 // Whether a call below answered something else.
-fn other_than(number: u32, answer: u32) -> bool
+pub fn other_than(number: u32, answer: u32) -> bool
     ensures { λ r. ⌜ r ≡ Chain.otherThan number answer ⌝ }
 {
     if answer == number { false } else { true }

@@ -101,14 +101,14 @@ module _ (a : Whole) (n m : ℕ) (two : Stepping) (zero : numberOf a n m ≡ 0) 
       let sized2 = also-then (a .args .average) _ (sized (planeOf a (a .two) .geom)) (ok .two)
       (λ t u. ref-sized (a .args) (a .frame) (a .two .geom) u) in
       let starts2 = also-then (a .args .average) _ (starts two) (ok .two)
-      (λ t u. rw (e t) (starts-taken a n m ok true (a .two) (look-two a n m ok t))) in
+      (λ t u. rw (e t) (starts-taken (a .args) (a .grid) (a .frame) (a .mvs) true (a .two .geom) (look-two a n m ok t))) in
       let out = in-both (shapeOf a .w) 131072 (a .dest .width) (omega (arith, x .ends)) (omega (arith, wide .1)) in
       let rows : holds (shapeOf a .h) (a .dest .width) (shapeOf a .w) (n - first a) ≡ true = rw (lt-ltb 0 (shapeOf a .h) h) (le-leb _ _ (fit .1)) in
       zero-five _ _ _ _ _
       (both-true (in-both 1 64 (shapeOf a .w) w (omega (arith, x .most, ok .w .1))) (in-both 1 64 (shapeOf a .h) h (omega (arith, y .most, ok .h .1))))
       (ok .filter)
       (both-true (ref-sized (a .args) (a .frame) (a .one .geom) (ok .one)) sized2)
-      (both-true (starts-taken a n m ok false (a .one) (look-one a n m ok)) starts2)
+      (both-true (starts-taken (a .args) (a .grid) (a .frame) (a .mvs) false (a .one .geom) (look-one a n m ok)) starts2)
       (both-true (both-true (ok .bands) (ok .bands2)) (both-true (both-true out rows) (ok .room)))
 
   -- where there is something to predict, the block prediction below accepts it

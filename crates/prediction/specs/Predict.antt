@@ -11,8 +11,8 @@ use Rattle.base.specs.Paint.{paint, onPart}
 use Rattle.samples.specs.Call.{Call, call, ref, value}
 use Rattle.judgement.specs.declared.judging.InterPredArgs.{InterPredArgs}
 use Rattle.judgement.specs.declared.judging.DestGeom.{DestGeom}
-pub use Rattle.judgement.specs.Whole.{Source, source, Whole, whole, planeGeom, planeOf, scaleGeom, countInside, shapeIn, shapeOf, predictRows}
-unfoldable pub use Rattle.judgement.specs.Whole.{extent, steppingOf, allowedRef, destFits, blockOk, numberOf}
+pub use Rattle.judgement.specs.Whole.{Source, source, Whole, whole, planeGeom, planeOf, scaleGeom, steppingOf, countInside, shapeIn, shapeOf, predictRows}
+unfoldable pub use Rattle.judgement.specs.Whole.{extent, stepping, allowedRef, destFits, blockOk, numberOf}
 
 -- 8.5.2, step 5: the block prediction of the part inside, its reference 0 from list 0 and its reference 1 from list 1
 abbrev pub callOf : Whole → Call

@@ -1,3 +1,6 @@
 pub mod Cutting
 pub mod Instance
 pub mod Starred
+pub mod Unread
+pub mod UnreadInstance
+pub mod UnreadWhole

@@ -2,63 +2,27 @@
 -- has the block's samples. Assumes nothing.
 use mathlib.Core.Path.{_≡_, refl, sym, ap, _∙_}
 use mathlib.Core.Bool.{Bool, true, false}
-use Prim.Native.Nat.{ℕ, suc, _+_, _-_, _*_, _/_, _^_, _<_, _≤_, min}
-use native.Mathlib.Nat.{mul-le-mul-left, min-le-right}
+use Prim.Native.Nat.{ℕ, _+_, _-_, _^_, _<_, _≤_}
+use native.Mathlib.Nat.{min-le-right}
 use native.Mathlib.Omega.{arith}
-use lib.IntN.{ℤ, pos, negsuc, _+ℤ_, _-ℤ_}
-use Rattle.base.specs.Position.{toN, floor16, mod16, hold, along, place}
-use Rattle.base.proofs.Lift.{Diff, Lifted, lifted, diff-pos, diff-neg, diff-add, diff-toN, diff-along, along-along, place-lifted}
+use lib.IntN.{ℤ}
+use Rattle.base.specs.Position.{toN, mod16, hold, along, place}
+use Rattle.base.proofs.Lift.{along-along}
 use Rattle.taps.specs.Taps.{tap}
 use Rattle.blocks.specs.Sample.{across, sample, blend}
 use Rattle.planes.specs.Plane.{Lent, plane, widthOf, heightOf}
 use Rattle.samples.specs.Call.{Ref, ref, Call, fromRef, value}
-use Rattle.samples.specs.Reach.{firstRead, lastRead, Agree, SamePlane, Piece, Rectangle}
+use Rattle.reach.proofs.Places.{reads-in, in-plane}
+use Rattle.samples.specs.Reach.{Agree, SamePlane, Piece, Rectangle}
 use Rattle.blocks.specs.declared.block.BlockShape.{BlockShape}
 use Rattle.blocks.specs.declared.block.Stepping.{Stepping}
 use Rattle.taps.proofs.Filtered.{samples-same}
 
--- ---- places
-
--- any position, lifted by a multiple of 16 of its own
-record Up (z : ℤ) : Type 0 where
-  q : ℕ
-  k : ℕ
-  is : Diff z q (16 * k)
-
-up : (z : ℤ) → Up z
-up (pos n) = record { q = n; k = 0; is = diff-pos n }
-up (negsuc n) = record { q = 16 * suc n - suc n; k = suc n; is = diff-neg n (16 * suc n) (omega arith) }
-
-first-is : (last : ℕ) (z : ℤ) (q k : ℕ) → Lifted z q k → firstRead last z ≡ min (q / 16 - (k + 3)) last
-unfolding firstRead hold
-first-is last z q k l =
-    let three : Diff (negsuc 2) 0 3 = record { is = refl } in
-    let e : toN (floor16 z -ℤ pos 3) ≡ q / 16 - (k + 3) = omega (arith, diff-toN _ _ _ (diff-add (l .floor) three)) in
-    ap (λ (n : ℕ). min n last) e
-
-last-is : (last : ℕ) (z : ℤ) (step n q k : ℕ) → Lifted (along z step (n - 1)) q k → lastRead last z step n ≡ min (q / 16 + 4 - k) last
-unfolding lastRead hold
-last-is last z step n q k l =
-    let e : toN (floor16 (along z step (n - 1)) +ℤ pos 4) ≡ q / 16 + 4 - k = omega (arith, diff-toN _ _ _ (diff-add (l .floor) (diff-pos 4))) in
-    ap (λ (m : ℕ). min m last) e
-
--- what each tap reads at each position is between the first and the last
-pub in-reach : (last : ℕ) (s : ℤ) (step n i t : ℕ) → i < n → t < 8
-    → (firstRead last s ≤ place last (along s step i) t) × (place last (along s step i) t ≤ lastRead last s step n)
-in-reach last s step n i t lt t8 =
-    let u = up s in
-    let at : (j : ℕ) → Lifted (along s step j) (u .q + step * j) (u .k) = λ j. lifted _ _ (u .k) (diff-along step j (u .is)) in
-    let far : step * i ≤ step * (n - 1) = mul-le-mul-left step (omega arith) in
-    let a = first-is last s (u .q) (u .k) (lifted s (u .q) (u .k) (u .is)) in
-    let b = last-is last s step n (u .q + step * (n - 1)) (u .k) (at (n - 1)) in
-    let c = place-lifted last (along s step i) (u .q + step * i) (u .k) t (at i) in
-    (omega arith, omega arith)
+-- ---- samples
 
 place-le : (last : ℕ) (z : ℤ) (t : ℕ) → place last z t ≤ last
 unfolding place hold
 place-le last z t = min-le-right _ _
-
--- ---- samples
 
 -- a sample reads a plane at eight by eight places
 pub sample-same : (max : ℕ) (taps : ℕ → ℕ → ℤ) (p q : ℕ → ℕ → ℕ) (X Y : ℕ) (P Q : ℤ)
@@ -72,31 +36,23 @@ pub reach : (b : BlockShape) (s : Stepping) (one two : Lent) → Agree s (b .w) 
     → (r c : ℕ) → r < b .h → c < b .w → fromRef b (ref one s) r c ≡ fromRef b (ref two s) r c
 unfolding fromRef
 reach b s one two a r c rh cw =
+    let W = widthOf (one .geom) in
+    let H = heightOf (one .geom) in
     rw (sym (a .width), sym (a .height))
-    (sample-same (2 ^ b .depth - 1) (tap (b .filter)) (plane one) (plane two) (widthOf (one .geom) - 1) (heightOf (one .geom) - 1) _ _
-    (λ t u t8 u8.
-    let v = in-reach (heightOf (one .geom) - 1) (s .«start_y» .0) (toN (s .«step_y» .0)) (b .h) r t rh t8 in
-    let x = in-reach (widthOf (one .geom) - 1) (s .«start_x» .0) (toN (s .«step_x» .0)) (b .w) c u cw u8 in
-    a .samples _ _ (v .0) (v .1) (x .0) (x .1)))
-
-last-le : (last : ℕ) (z : ℤ) (step n : ℕ) → lastRead last z step n ≤ last
-unfolding lastRead hold
-last-le last z step n = min-le-right _ _
+    (sample-same (2 ^ b .depth - 1) (tap (b .filter)) (plane one) (plane two) (W - 1) (H - 1) _ _
+    (λ t u t8 u8. a .samples _ _ (reads-in W H s (b .w) (b .h) r c t u rh cw t8 u8)))
 
 -- two lendings of one plane agree on all of it, so that the parting into bands does not matter
 pub parting : (b : BlockShape) (s : Stepping) (one two : Lent) → SamePlane one two → 0 < widthOf (one .geom) → 0 < heightOf (one .geom)
     → (r c : ℕ) → r < b .h → c < b .w → fromRef b (ref one s) r c ≡ fromRef b (ref two s) r c
 parting b s one two same wide tall =
-    let X = widthOf (one .geom) - 1 in
-    let Y = heightOf (one .geom) - 1 in
     reach b s one two
     (record {
       width = same .width;
       height = same .height;
-      samples = λ v u v0 v1 u0 u1.
-          same .samples v u
-          (omega (arith, last-le Y (s .«start_y» .0) (toN (s .«step_y» .0)) (b .h)))
-          (omega (arith, last-le X (s .«start_x» .0) (toN (s .«step_x» .0)) (b .w)));
+      samples = λ v u i.
+          let p = in-plane (widthOf (one .geom)) (heightOf (one .geom)) s (b .w) (b .h) v u wide tall i in
+          same .samples v u (p .0) (p .1);
     })
 
 -- ---- rectangles

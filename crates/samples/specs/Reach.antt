@@ -1,31 +1,23 @@
 -- What of a plane a block can read, two lendings of one plane, and a rectangle cut out of a block. Assumes nothing.
-use Prim.Native.Nat.{ℕ, _-_, _<_, _≤_}
+use Prim.Native.Nat.{ℕ, _<_}
 use mathlib.Core.Path.{_≡_}
 use mathlib.Core.Bool.{true}
-use lib.IntN.{ℤ, pos, _+ℤ_, _-ℤ_}
-use Rattle.base.specs.Position.{toN, floor16, hold, along}
+use Rattle.base.specs.Position.{toN, along}
 use Rattle.planes.specs.Plane.{Lent, plane, widthOf, heightOf}
+use Rattle.reach.specs.Rectangle.{In, readable}
+use Rattle.reach.specs.declared.reaching.Reach.{Reach}
 use Rattle.samples.specs.Call.{Ref, Call}
 use Rattle.blocks.specs.declared.block.Stepping.{Stepping}
 
--- the first column, or row, that a block can read: floor(start/16) - 3, held
-unfoldable pub firstRead : ℕ → ℤ → ℕ
-firstRead last start = hold last (floor16 start -ℤ pos 3)
-
--- the last one, of n positions: floor((start + step x (n - 1))/16) + 4, held
-unfoldable pub lastRead : ℕ → ℤ → ℕ → ℕ → ℕ
-lastRead last start step n = hold last (floor16 (along start step (n - 1)) +ℤ pos 4)
+-- planes that agree on a rectangle
+abbrev pub AgreeOn : Reach → Lent → Lent → Type 0
+AgreeOn r one two = (v u : ℕ) → In r v u → plane one v u ≡ plane two v u
 
 -- two planes of one size agree on the rectangle that w by h positions can read
 pub record Agree (s : Stepping) (w h : ℕ) (one two : Lent) : Type 0 where
   pub width : widthOf (one .geom) ≡ widthOf (two .geom)
   pub height : heightOf (one .geom) ≡ heightOf (two .geom)
-  pub samples : (v u : ℕ)
-      → firstRead (heightOf (one .geom) - 1) (s .«start_y» .0) ≤ v
-      → v ≤ lastRead (heightOf (one .geom) - 1) (s .«start_y» .0) (toN (s .«step_y» .0)) h
-      → firstRead (widthOf (one .geom) - 1) (s .«start_x» .0) ≤ u
-      → u ≤ lastRead (widthOf (one .geom) - 1) (s .«start_x» .0) (toN (s .«step_x» .0)) w
-      → plane one v u ≡ plane two v u
+  pub samples : AgreeOn (readable w h (widthOf (one .geom)) (heightOf (one .geom)) s) one two
 
 -- one plane, however its rows are parted into bands
 pub record SamePlane (one two : Lent) : Type 0 where

@@ -16,7 +16,6 @@ use base::FILTER;
 use base::SHORT;
 use base::SIZE;
 use base::START;
-use base::between;
 use base::within;
 use blocks::BlockShape;
 use blocks::Stepping;
@@ -26,20 +25,12 @@ use planes::PlaneGeom;
 use planes::fits;
 use planes::holds;
 use planes::sized;
+use reach::starts;
 
 fn kind(shape: BlockShape) -> bool
     ensures { λ r. ⌜ r ≡ Call.kind shape ⌝ }
 {
     (shape.filter <= 3) & ((shape.depth == 8) | (shape.depth == 10) | (shape.depth == 12))
-}
-
-fn starts(from: Stepping) -> bool
-    ensures { λ r. ⌜ r ≡ Call.starts from ⌝ }
-{
-    between(-3000000, 3000000, from.start_x.0)
-        & between(-3000000, 3000000, from.start_y.0)
-        & between(1, 32, from.step_x.0)
-        & between(1, 32, from.step_y.0)
 }
 
 // The output of n numbers and the room of m, for a block of at most 64 rows.

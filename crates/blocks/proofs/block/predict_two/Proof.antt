@@ -34,13 +34,13 @@ natural-requires-2 : tie.Need-natural-requires-2
 natural-requires-2 c κs = search needs
 
 lift-requires : tie.Need-lift-requires
-lift-requires c κs = facts (entry (c .before .before)) .left
+lift-requires c κs = facts (entry (c .before .before)) .from .left
 
 natural-requires-3 : tie.Need-natural-requires-3
 natural-requires-3 c κs = search needs
 
 lift-requires-2 : tie.Need-lift-requires-2
-lift-requires-2 c κs = let n = c .before .before .before in facts (entry (n .before .before)) .top
+lift-requires-2 c κs = let n = c .before .before .before in facts (entry (n .before .before)) .from .top
 
 natural-requires-4 : tie.Need-natural-requires-4
 natural-requires-4 c κs = search needs
@@ -74,7 +74,7 @@ pair-block-requires c κs =
     let lx = l1 .lift .ensures .1 in
     let ly = l2 .lift2 .ensures .1 in
     rw (ew, eh) (
-      omega (arith, f .filter, f .w, f .h, f .across, f .down, lx, ly, ex, ey),
+      omega (arith, f .filter, f .w, f .h, f .from .across, f .from .down, lx, ly, ex, ey),
       (omega (arith, f .width, f .height, s .pre .1), (s .pre .0 .bands, (s .pre .1 .0, rw (t .top .ensures) (depth-top (a .shape) (s .pre .0 .filter))))),
     )
 
@@ -135,7 +135,7 @@ block-mean-requires c κs =
     let lx = l1 .lift .ensures .1 in
     let ly = l2 .lift2 .ensures .1 in
     rw (ew, eh) (
-      omega (arith, f .filter, f .w, f .h, f .across, f .down, lx, ly, ex, ey),
+      omega (arith, f .filter, f .w, f .h, f .from .across, f .from .down, lx, ly, ex, ey),
       (omega (arith, f .width, f .height, s .pre .1), (s .pre .0 .bands, (s .pre .1 .0, rw (t .top .ensures) (depth-top (a .shape) (s .pre .0 .filter))))),
     )
 

@@ -1,10 +1,10 @@
--- `samples::block_inter_pred::starts` meets its contract: each number is read back from its bits. Assumes nothing.
+-- `reach::reaching::starts` meets its contract: each number is read back from its bits. Assumes nothing.
 use borrow.Author.Needs.{needs}
 use Rattle.base.specs.Number.{between}
-use Rattle.samples.specs.Call.{starts}
+use Rattle.blocks.specs.Block.{starts}
 use Rattle.base.proofs.Casts.{read-back}
-use Rattle.samples.proofs.block_inter_pred.starts.Statement.{statement}
-use Rattle.samples.proofs.block_inter_pred.starts.Tie as tie
+use Rattle.reach.proofs.reaching.starts.Statement.{statement}
+use Rattle.reach.proofs.reaching.starts.Tie as tie
 
 between-requires : tie.Need-between-requires
 between-requires c κs = search needs

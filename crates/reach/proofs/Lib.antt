@@ -1,0 +1,3 @@
+pub mod Places
+pub mod Accepted
+pub mod Calls

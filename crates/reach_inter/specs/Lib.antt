@@ -1,0 +1,2 @@
+pub mod InterReach
+pub mod Chain
