@@ -1,6 +1,7 @@
 //! Document 01's section 'Samples' in plain Rust, sentence by sentence, with no thought of speed:
 //! signed positions, each column and each row held, both passes always done and clipped. It is not
-//! written from the Rust; only the taps are taken from it.
+//! written from the Rust; only the taps are taken from it. Then document 02's Req 11, the rectangle
+//! that a block can reach.
 
 use crate::block_inter_pred::SUBPEL_FILTERS;
 use crate::door;
@@ -51,7 +52,43 @@ pub fn predict_inter(a: &PredictArgs, dst: &mut [u16]) {
 }
 
 fn plane_reference(a: &PredictArgs, list: usize) -> Reference {
-    let frame = &a.refs[list];
+    let one = one_list(a, list);
+    let (width, height) = plane_size(&one);
+    Reference {
+        bands: Bands {
+            width,
+            height,
+            ..a.refs[list].bands.clone()
+        },
+        at: start_and_step(&one),
+    }
+}
+
+/// What a whole prediction says of one list: the arguments of that list's reach.
+pub fn one_list(a: &PredictArgs, list: usize) -> InterReachArgs {
+    InterReachArgs {
+        plane: a.plane,
+        x: a.x,
+        y: a.y,
+        w: a.w,
+        h: a.h,
+        block: a.block,
+        filter: a.filter,
+        depth: a.depth,
+        average: a.average,
+        grid: a.grid,
+        frame_width: a.frame_width,
+        frame_height: a.frame_height,
+        sub_x: a.sub_x,
+        sub_y: a.sub_y,
+        vectors: a.vectors,
+        second: list == 1,
+        ref_width: a.refs[list].frame_width,
+        ref_height: a.refs[list].frame_height,
+    }
+}
+
+fn plane_size(a: &InterReachArgs) -> (i32, i32) {
     let halved = |size: i32, sub: bool| {
         if a.plane > 0 && sub {
             (size + 1) / 2
@@ -59,20 +96,13 @@ fn plane_reference(a: &PredictArgs, list: usize) -> Reference {
             size
         }
     };
-    Reference {
-        bands: Bands {
-            width: halved(frame.frame_width, a.sub_x),
-            height: halved(frame.frame_height, a.sub_y),
-            ..frame.bands.clone()
-        },
-        at: start_and_step(a, list),
-    }
+    (halved(a.ref_width, a.sub_x), halved(a.ref_height, a.sub_y))
 }
 
-fn start_and_step(a: &PredictArgs, list: usize) -> Scaled {
+pub fn start_and_step(a: &InterReachArgs) -> Scaled {
     let vector = door::select_mv(&SelectArgs {
         vectors: a.vectors,
-        second: list == 1,
+        second: a.second,
         plane: a.plane,
         mi_size: a.grid.mi_size,
         block: a.block,
@@ -87,8 +117,8 @@ fn start_and_step(a: &PredictArgs, list: usize) -> Scaled {
         sub_y: a.sub_y,
     });
     door::scale_mv(&ScaleArgs {
-        ref_width: a.refs[list].frame_width,
-        ref_height: a.refs[list].frame_height,
+        ref_width: a.ref_width,
+        ref_height: a.ref_height,
         frame_width: a.frame_width,
         frame_height: a.frame_height,
         sub_x: a.sub_x,
@@ -142,4 +172,38 @@ fn held_sample(bands: &Bands, row: i64, column: i64) -> i64 {
         Some(below) => bands.lower[below * bands.stride + column],
     };
     i64::from(sample)
+}
+
+/// Document 02, Req 11: "columns floor(start_x / 16) - 3 to floor((start_x + step_x x (w - 1)) /
+/// 16) + 4 and on the rows worked out alike, each end held into the plane".
+pub fn block_reach(a: &BlockReachArgs) -> Reach {
+    let (first_col, last_col) = ends(a.at.start_x, a.at.step_x, a.w, a.width);
+    let (first_row, last_row) = ends(a.at.start_y, a.at.step_y, a.h, a.height);
+    Reach {
+        first_col,
+        last_col,
+        first_row,
+        last_row,
+    }
+}
+
+/// Of `count` positions from `start` on, in a plane of `extent` columns or rows.
+fn ends(start: i32, step: i32, count: usize, extent: i32) -> (usize, usize) {
+    let (start, step, count) = (i64::from(start), i64::from(step), count as i64);
+    let held = |n: i64| n.clamp(0, i64::from(extent) - 1) as usize;
+    let first = start.div_euclid(16) - 3;
+    let last = (start + step * (count - 1)).div_euclid(16) + 4;
+    (held(first), held(last))
+}
+
+/// The same of a whole prediction: its start and steps are the door's, as in `predict_inter`.
+pub fn inter_reach(a: &InterReachArgs) -> Reach {
+    let (width, height) = plane_size(a);
+    block_reach(&BlockReachArgs {
+        w: a.w,
+        h: a.h,
+        width,
+        height,
+        at: start_and_step(a),
+    })
 }

@@ -1,6 +1,7 @@
-//! Document 01's section 'Answer numbers', read line by line into plain Rust: for each bought call
-//! and for the row read, its arguments give the answer number. Nothing here is taken from the code
-//! that is tested nor from the Rust, except the search places, which document 01 takes from there.
+//! Document 01's section 'Answer numbers', read line by line into plain Rust: for each bought call,
+//! for the row read and for the two calls of document 02's Req 11, its arguments give the answer
+//! number. Nothing here is taken from the code that is tested nor from the Rust, except the search
+//! places, which document 01 takes from there.
 //!
 //! A function below tests the rows of the table in their order and stops at the first that applies:
 //! "Where several apply, the lowest number is given." Within a row the order can't matter.
@@ -244,6 +245,55 @@ pub fn predict_inter(a: &PredictArgs, dst_len: usize, room_len: usize) -> u32 {
         return SHORT;
     }
     if vectors.iter().flatten().any(wrong_vector) {
+        return VECTOR;
+    }
+    ACCEPTED
+}
+
+/// Document 02, Req 11: "Give the rectangle itself as a function, with refusals 1, 5, 6 and nothing
+/// else."
+pub fn block_reach(a: &BlockReachArgs) -> u32 {
+    if wrong_side(a.w) || wrong_side(a.h) {
+        return BLOCK;
+    }
+    if wrong_extent(a.width) || wrong_extent(a.height) {
+        return SIZE;
+    }
+    if wrong_start(&a.at) {
+        return START;
+    }
+    ACCEPTED
+}
+
+/// The same of a whole prediction, in the plane of one list's reference: `predict_inter`'s rows but
+/// those of filter, depth and buffers, and nothing of the other list. "Each call tests only what it
+/// is given".
+pub fn inter_reach(a: &InterReachArgs) -> u32 {
+    if wrong_size(a.grid.mi_size)
+        || wrong_sub_block(a.block)
+        || wrong_plane(a.plane)
+        || wrong_side(a.w)
+        || wrong_side(a.h)
+        || no_partner(a.plane, a.grid.mi_size, a.block, a.sub_x, a.sub_y)
+    {
+        return BLOCK;
+    }
+    if wrong_grid(&a.grid) || wrong_column(&a.grid) {
+        return GRID;
+    }
+    if wrong_extent(a.frame_width)
+        || wrong_extent(a.frame_height)
+        || wrong_extent(a.ref_width)
+        || wrong_extent(a.ref_height)
+        || !allowed(a.frame_width, a.ref_width)
+        || !allowed(a.frame_height, a.ref_height)
+    {
+        return SIZE;
+    }
+    if wrong_place(a.x) || wrong_place(a.y) {
+        return START;
+    }
+    if a.vectors[usize::from(a.second)].iter().any(wrong_vector) {
         return VECTOR;
     }
     ACCEPTED
@@ -721,5 +771,61 @@ mod tests {
         mend((wrong, 0, 0), mends, |(a, dst, room)| {
             predict_inter(a, *dst, *room)
         });
+    }
+
+    #[test]
+    fn lowest_of_block_reach() {
+        let wrong = BlockReachArgs {
+            at: Scaled {
+                start_x: 3_000_001,
+                start_y: -3_000_001,
+                ..Scaled::default()
+            },
+            ..BlockReachArgs::default()
+        };
+        let mends: Mends<BlockReachArgs> = vec![
+            (1, |a| (a.w, a.h) = (64, 65)),
+            (1, |a| a.h = 1),
+            (5, |a| a.width = 65536),
+            (5, |a| a.height = 1),
+            (6, |a| a.at.start_x = 3_000_000),
+            (6, |a| a.at.start_y = -3_000_000),
+            (6, |a| a.at.step_x = 32),
+            (6, |a| a.at.step_y = 1),
+        ];
+        mend(wrong, mends, block_reach);
+    }
+
+    /// Of list 0, the other list wrong to the end; then of list 1.
+    #[test]
+    fn lowest_of_inter_reach() {
+        let wrong = InterReachArgs {
+            x: -1,
+            y: 65536,
+            vectors: [wrong_vectors()[0]; 2],
+            filter: usize::MAX,
+            depth: 9,
+            ..InterReachArgs::default()
+        };
+        let mends: Mends<InterReachArgs> = vec![
+            (1, |a| (a.w, a.h) = (1, 64)),
+            (2, |a| (a.grid.mi_rows, a.grid.mi_cols) = (8192, 8192)),
+            (5, |a| (a.frame_width, a.ref_width) = (1, 3)),
+            (5, |a| (a.frame_height, a.ref_height) = (17, 1)),
+            (5, |a| a.ref_width = 2),
+            (5, |a| a.frame_height = 16),
+            (6, |a| a.x = 0),
+            (6, |a| a.y = 65535),
+            (9, |a| a.vectors[0][0][1] = 0),
+        ];
+        mend(wrong, mends.clone(), inter_reach);
+        let mut of_second = mends;
+        of_second.pop();
+        of_second.push((9, |a| a.vectors[1][0][1] = 0));
+        let wrong = InterReachArgs {
+            second: true,
+            ..wrong
+        };
+        mend(wrong, of_second, inter_reach);
     }
 }

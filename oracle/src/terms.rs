@@ -1,6 +1,6 @@
-//! The arguments and the answers of every bought call, in document 01's terms: plain numbers, lent
-//! tables, flat planes. `door` answers them with the Rust, `table` reads document 01's refusals
-//! over them, `cases` makes them up and writes them down.
+//! The arguments and the answers of every call, in document 01's terms: plain numbers, lent tables,
+//! flat planes. `door` answers them with the Rust, `plain` where the Rust has no such call, `table`
+//! reads document 01's refusals over them, `cases` makes them up and writes them down.
 
 /// Row before column, in eighths of a luma sample or, once clamped, sixteenths of a plane sample.
 pub type Vector = [i32; 2];
@@ -171,4 +171,50 @@ pub struct PredictArgs {
     /// Of the destination plane; its stride is its width.
     pub dst_width: usize,
     pub dst_height: usize,
+}
+
+/// How far a block can reach: its size, the size of the plane, where it starts there and how it
+/// steps.
+#[derive(Clone, Copy, Debug, Default, PartialEq, Eq)]
+pub struct BlockReachArgs {
+    pub w: usize,
+    pub h: usize,
+    pub width: i32,
+    pub height: i32,
+    pub at: Scaled,
+}
+
+/// How far a whole prediction can reach: its arguments without the buffers, which list is meant,
+/// and the size of that list's reference frame.
+#[derive(Clone, Copy, Debug, Default, PartialEq, Eq)]
+pub struct InterReachArgs {
+    pub plane: usize,
+    pub x: i32,
+    pub y: i32,
+    pub w: usize,
+    pub h: usize,
+    pub block: usize,
+    /// Not looked at, nor are the next two.
+    pub filter: usize,
+    pub depth: u32,
+    pub average: bool,
+    pub grid: Grid,
+    pub frame_width: i32,
+    pub frame_height: i32,
+    pub sub_x: bool,
+    pub sub_y: bool,
+    pub vectors: BlockVectors,
+    /// Whether list 1 is meant.
+    pub second: bool,
+    pub ref_width: i32,
+    pub ref_height: i32,
+}
+
+/// The first and the last column and row that a block can reach in a plane.
+#[derive(Clone, Copy, Debug, Default, PartialEq, Eq)]
+pub struct Reach {
+    pub first_col: usize,
+    pub last_col: usize,
+    pub first_row: usize,
+    pub last_row: usize,
 }

@@ -23,7 +23,8 @@ pub trait Fixed: Clone {
     /// The number of document 01's table.
     fn number(&self) -> u32;
 
-    /// The values beside it, from the Rust; asked for accepted cases only.
+    /// The values beside it, from the Rust or, where it has no such call, from the definition;
+    /// asked for accepted cases only.
     fn write_values(&self, w: &mut Writer);
 }
 

@@ -2,10 +2,12 @@
 
 mod best;
 mod block;
+mod block_reach;
 mod bytes;
 mod clamp;
 mod edges;
 mod fixed;
+mod inter_reach;
 mod planes;
 mod predict;
 mod prediction;
@@ -18,11 +20,14 @@ mod select;
 mod staged;
 
 #[cfg(test)]
+mod reach_slips;
+#[cfg(test)]
 mod slips;
 #[cfg(test)]
 mod tests;
 
-use crate::terms::{BestArgs, BlockArgs, ClampArgs, PredictArgs, ScaleArgs, SelectArgs};
+use crate::terms::{BestArgs, BlockArgs, BlockReachArgs, ClampArgs, InterReachArgs};
+use crate::terms::{PredictArgs, ScaleArgs, SelectArgs};
 use bytes::{Read, Reader, Writer};
 use fixed::Fixed;
 use rng::Rng;
@@ -43,10 +48,12 @@ pub enum Call {
     RowRead,
     BlockInterPredict,
     PredictInter,
+    BlockReach,
+    InterReach,
 }
 
 impl Call {
-    pub const ALL: [Call; 9] = [
+    pub const ALL: [Call; 11] = [
         Call::SelectMv,
         Call::ClampMv,
         Call::ScaleMv,
@@ -56,6 +63,8 @@ impl Call {
         Call::RowRead,
         Call::BlockInterPredict,
         Call::PredictInter,
+        Call::BlockReach,
+        Call::InterReach,
     ];
 
     pub fn name(self) -> &'static str {
@@ -69,6 +78,8 @@ impl Call {
             Call::RowRead => "row_read",
             Call::BlockInterPredict => "block_inter_predict",
             Call::PredictInter => "predict_inter",
+            Call::BlockReach => "block_reach",
+            Call::InterReach => "inter_reach",
         }
     }
 
@@ -88,6 +99,8 @@ impl Call {
             Call::RowRead => RowRead::LENGTH,
             Call::BlockInterPredict => BlockArgs::LENGTH,
             Call::PredictInter => PredictArgs::LENGTH,
+            Call::BlockReach => BlockReachArgs::LENGTH,
+            Call::InterReach => InterReachArgs::LENGTH,
         }
     }
 }
@@ -107,6 +120,8 @@ pub fn make(call: Call, seed: u64, count: u32) -> Vec<u8> {
         Call::RowRead => staged::make::<RowRead>(rng, n, &mut w),
         Call::BlockInterPredict => staged::make::<BlockArgs>(rng, n, &mut w),
         Call::PredictInter => staged::make::<PredictArgs>(rng, n, &mut w),
+        Call::BlockReach => fixed::make::<BlockReachArgs>(rng, n, &mut w),
+        Call::InterReach => fixed::make::<InterReachArgs>(rng, n, &mut w),
     }
     w.0
 }
@@ -167,6 +182,8 @@ pub fn ask(call: Call, bytes: &[u8]) -> Read<Asked> {
         Call::RowRead => staged::ask::<RowRead>(r, cases),
         Call::BlockInterPredict => staged::ask::<BlockArgs>(r, cases),
         Call::PredictInter => staged::ask::<PredictArgs>(r, cases),
+        Call::BlockReach => fixed::ask::<BlockReachArgs>(r, cases),
+        Call::InterReach => fixed::ask::<InterReachArgs>(r, cases),
     }?;
     if !r.at_end() {
         return Err(format!("the file goes on after byte {}", r.at()));

@@ -206,8 +206,8 @@ impl Prediction for PredictArgs {
         a.x = chance_place(rng, a.dst_width);
         a.y = chance_place(rng, a.dst_height);
         a.vectors = chance_vectors(rng);
-        a.grid = chance_grid(rng, a);
-        a.block = chance_block(rng, a);
+        a.grid = chance_grid(rng, a.x, a.y);
+        a.block = chance_block(rng, a.sub_x, a.sub_y);
         q.out = a.dst_width * a.dst_height + rng.pick(&[0, 0, 1, 4]);
         for list in 0..2 {
             let (width, height) = (q.args.frame_width, q.args.frame_height);
@@ -435,7 +435,7 @@ fn chance_place(rng: &mut Rng, extent: usize) -> i32 {
     }
 }
 
-fn chance_vectors(rng: &mut Rng) -> BlockVectors {
+pub fn chance_vectors(rng: &mut Rng) -> BlockVectors {
     let limit = if rng.once_in(60) { 32768 } else { 32767 };
     let mut vectors = BlockVectors::default();
     for c in vectors.iter_mut().flatten().flatten() {
@@ -449,9 +449,9 @@ fn chance_vectors(rng: &mut Rng) -> BlockVectors {
 }
 
 /// Around the block: the cells of the frame where they are enough, else more.
-fn chance_grid(rng: &mut Rng, a: &PredictArgs) -> Grid {
-    let mi_row = (a.y / 8).min(8191);
-    let mi_col = (a.x / 8).min(8191);
+pub fn chance_grid(rng: &mut Rng, x: i32, y: i32) -> Grid {
+    let mi_row = (y / 8).min(8191);
+    let mi_col = (x / 8).min(8191);
     Grid {
         mi_row,
         mi_col,
@@ -462,8 +462,8 @@ fn chance_grid(rng: &mut Rng, a: &PredictArgs) -> Grid {
 }
 
 /// A sub-block that has its partner, mostly.
-fn chance_block(rng: &mut Rng, a: &PredictArgs) -> usize {
-    let last = match (a.sub_x, a.sub_y) {
+pub fn chance_block(rng: &mut Rng, sub_x: bool, sub_y: bool) -> usize {
+    let last = match (sub_x, sub_y) {
         (false, true) => 1,
         (true, false) => 2,
         _ => 3,

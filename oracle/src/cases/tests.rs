@@ -24,6 +24,8 @@ fn answer_at(call: Call) -> usize {
         Call::RowRead => 40,
         Call::BlockInterPredict => 144,
         Call::PredictInter => 236,
+        Call::BlockReach => 44,
+        Call::InterReach => 156,
     }
 }
 
@@ -33,11 +35,12 @@ fn records(call: Call, file: &[u8]) -> Vec<usize> {
     both.map(|(_, start)| start).collect()
 }
 
-/// The same, each with where its scene begins; calls 1 to 4 have none, and the header stands in.
+/// The same, each with where its scene begins; calls 1 to 4, 10 and 11 have none, and the header
+/// stands in.
 fn scenes_and_records(call: Call, file: &[u8]) -> Vec<(usize, usize)> {
     let (length, count) = (word(file, 8), word(file, 12));
     let scene_length = match call as u32 {
-        1..=4 => 16,
+        1..=4 | 10..=11 => 16,
         5..=6 => 3408,
         _ => 8208,
     };
@@ -79,7 +82,8 @@ fn word(file: &[u8], at: usize) -> usize {
 /// README.md's limits, which a reader with buffers of fixed size leans on.
 #[test]
 fn no_query_lends_more_than_is_said() {
-    for call in Call::ALL.into_iter().skip(4) {
+    let staged = |&call: &Call| (5..=9).contains(&(call as u32));
+    for call in Call::ALL.into_iter().filter(staged) {
         let file = &make(call, 4, 3000);
         let (bands, output): (&[usize], &[usize]) = match call as u32 {
             7 => (&[24, 28], &[]),
@@ -105,7 +109,7 @@ fn no_query_lends_more_than_is_said() {
     }
 }
 
-/// The answers that a call can give, by document 01.
+/// The answers that a call can give, by documents 01 and 02.
 fn possible(call: Call) -> &'static [u32] {
     match call {
         Call::SelectMv => &[0, 1, 9],
@@ -117,6 +121,8 @@ fn possible(call: Call) -> &'static [u32] {
         Call::RowRead => &[0, 5, 6, 7],
         Call::BlockInterPredict => &[0, 1, 4, 5, 6, 7],
         Call::PredictInter => &[0, 1, 2, 4, 5, 6, 7, 9],
+        Call::BlockReach => &[0, 1, 5, 6],
+        Call::InterReach => &[0, 1, 2, 5, 6, 9],
     }
 }
 
@@ -164,8 +170,11 @@ fn edges_give_the_number_they_were_written_for() {
         hold_staged::<RowRead>(),
         hold_staged::<BlockArgs>(),
         hold_staged::<PredictArgs>(),
+        hold_fixed::<BlockReachArgs>(),
+        hold_fixed::<InterReachArgs>(),
     ];
-    assert_eq!(counts, [307, 158, 134, 178, 491, 569, 130, 400, 613]);
+    let stated = [307, 158, 134, 178, 491, 569, 130, 400, 613, 417, 646];
+    assert_eq!(counts, stated);
 }
 
 #[test]
@@ -201,6 +210,8 @@ fn the_same_seed_gives_the_same_bytes() {
         0x304245c0508c7760,
         0x5f467908a826b622,
         0xdb4db59444f92f44,
+        0xdafe32db32dea20b,
+        0x46abb3e46ae05803,
     ];
     assert_eq!(digests, stored, "{digests:#018x?}");
 }
@@ -257,7 +268,7 @@ fn a_planted_difference_is_found() {
         let mut spots = vec![accepted + answer_at(call)];
         // The length of the run isn't altered, which would part the file anew, but its place is.
         spots.push(accepted + answer_at(call) + 4);
-        if call as u32 >= 8 {
+        if (8..=9).contains(&(call as u32)) {
             spots.push(accepted + call.record());
         }
         for spot in spots {
