@@ -24,6 +24,7 @@ static int blocks(void)
                 wrong += out[i] != (i % 64 < shape.w && i / 64 < shape.h ? 7 : 9);
         }
     wrong += knobspindle_row_read(plane, 16 * 9, plane + 16 * 9, 16 * 7, geom, 9).band != 1;
+    wrong += knobspindle_block_reach(4, 4, 16, 16, (knobspindle_stepping){40, 40, 16, 16}).last_row != 9;
 
     static const knobspindle_block_mvs mvs;
     knobspindle_inter_pred_args args = {.w = 16, .h = 16, .depth = 8};
@@ -34,6 +35,7 @@ static int blocks(void)
                                        16 * 16, (knobspindle_dest_geom){16, 16}) != 0;
     for (size_t i = 0; i < 16 * 16; i++)
         wrong += out[i] != 7;
+    wrong += knobspindle_inter_reach(args, grid, frame, mvs, false, 16, 16).last_row != 15;
     return wrong;
 }
 

@@ -1,6 +1,7 @@
 /* Calls every exported function once or more through the shipped header, and checks what comes back. */
 #include "knobspindle.h"
 #include <stdio.h>
+#include <string.h>
 
 static int checks, failed;
 
@@ -434,6 +435,424 @@ static void cut(void)
     check("cut: answers", answer, KNOBSPINDLE_ACCEPTED);
 }
 
+static void check_reach(const char *what, knobspindle_reach r, uint32_t answer, size_t first_col, size_t last_col, size_t first_row, size_t last_row)
+{
+    const struct {
+        const char *of;
+        size_t got, want;
+    } five[5] = {
+        {"answer", r.answer, answer},
+        {"first column", r.first_col, first_col},
+        {"last column", r.last_col, last_col},
+        {"first row", r.first_row, first_row},
+        {"last row", r.last_row, last_row},
+    };
+    char name[160];
+    for (int i = 0; i < 5; i++) {
+        snprintf(name, sizeof name, "%s: %s", what, five[i].of);
+        check(name, (long long)five[i].got, (long long)five[i].want);
+    }
+}
+
+/* document 02, Req 11: columns floor(start_x / 16) - 3 to floor((start_x + step_x x (w - 1)) / 16) + 4, rows alike, each end held into the plane */
+static void block_reach(void)
+{
+    static const struct {
+        const char *what;
+        size_t w, h;
+        int32_t width, height;
+        knobspindle_stepping from;
+        size_t first_col, last_col, first_row, last_row;
+    } table[] = {
+        {"reach, inside", 8, 4, 100, 80, {320, 488, 16, 16}, 17, 31, 27, 37}, /* 20 to 27 and 30.5 to 33.5 */
+        {"reach, rounded down below zero", 3, 1, 100, 80, {-37, -21, 16, 16}, 0, 3, 0, 2}, /* -5 / 16 is -1, -21 / 16 is -2 */
+        {"reach, left of the plane and below it", 8, 8, 100, 80, {-200, 1440, 16, 16}, 0, 0, 79, 79},
+        {"reach, right of the plane and above it", 8, 1, 100, 80, {1760, -100, 16, 16}, 99, 99, 0, 0},
+        {"reach, the last that is held at 0 and the next", 1, 1, 100, 80, {-49, -48, 16, 16}, 0, 0, 0, 1},
+        {"reach, the first that is held at the end and the one before", 1, 1, 100, 80, {1632, 1311, 16, 16}, 99, 99, 78, 79},
+        {"reach, steps of 32 and 5", 64, 64, 200, 100, {7, 1000, 32, 5}, 0, 130, 59, 86}, /* to 2023 / 16; from 1000 / 16 to 1315 / 16 */
+        {"reach, steps of 1", 64, 64, 100, 80, {160, 163, 1, 1}, 7, 17, 7, 18}, /* to 223 / 16 and 226 / 16 */
+        {"reach, far starts", 64, 64, 65536, 65536, {-3000000, 3000000, 32, 32}, 0, 0, 65535, 65535},
+        {"reach, one row", 1, 64, 65536, 1, {1040000, 0, 16, 16}, 64997, 65004, 0, 0},
+    };
+    for (size_t i = 0; i < sizeof table / sizeof *table; i++)
+        check_reach(table[i].what, knobspindle_block_reach(table[i].w, table[i].h, table[i].width, table[i].height, table[i].from),
+                    KNOBSPINDLE_ACCEPTED, table[i].first_col, table[i].last_col, table[i].first_row, table[i].last_row);
+
+    /* the table's first call, with each of its numbers one below what is taken, at either end of it and one above */
+    static const struct {
+        long long low, high;
+        uint32_t answer;
+    } limits[8] = {
+        {1, 64, KNOBSPINDLE_BLOCK},             {1, 64, KNOBSPINDLE_BLOCK},             {1, 65536, KNOBSPINDLE_SIZE}, {1, 65536, KNOBSPINDLE_SIZE},
+        {-3000000, 3000000, KNOBSPINDLE_START}, {-3000000, 3000000, KNOBSPINDLE_START}, {1, 32, KNOBSPINDLE_START},   {1, 32, KNOBSPINDLE_START},
+    };
+    for (int i = 0; i < 8; i++) {
+        const long long values[4] = {limits[i].low - 1, limits[i].low, limits[i].high, limits[i].high + 1};
+        for (int k = 0; k < 4; k++) {
+            long long n[8] = {8, 4, 100, 80, 320, 488, 16, 16};
+            n[i] = values[k];
+            knobspindle_stepping from = {(int32_t)n[4], (int32_t)n[5], (int32_t)n[6], (int32_t)n[7]};
+            knobspindle_reach r = knobspindle_block_reach((size_t)n[0], (size_t)n[1], (int32_t)n[2], (int32_t)n[3], from);
+            if (k == 1 || k == 2)
+                check("reach, at an end: answer", r.answer, KNOBSPINDLE_ACCEPTED);
+            else
+                check_reach("reach, beyond an end", r, limits[i].answer, 0, 0, 0, 0);
+        }
+    }
+    knobspindle_stepping wrong = {.start_x = 320, .start_y = 488, .step_x = 16, .step_y = 33};
+    check_reach("reach, three wrong", knobspindle_block_reach(8, 65, 0, 80, wrong), KNOBSPINDLE_BLOCK, 0, 0, 0, 0);
+    check_reach("reach, two wrong", knobspindle_block_reach(8, 64, 0, 80, wrong), KNOBSPINDLE_SIZE, 0, 0, 0, 0);
+}
+
+/* what the whole prediction's reach is asked with */
+struct asked {
+    knobspindle_inter_pred_args args;
+    knobspindle_block_grid grid;
+    knobspindle_frame_geom frame;
+    knobspindle_block_mvs mvs;
+    bool second;
+    int32_t ref_width, ref_height;
+};
+
+static knobspindle_reach ask(struct asked a)
+{
+    return knobspindle_inter_reach(a.args, a.grid, a.frame, a.mvs, a.second, a.ref_width, a.ref_height);
+}
+
+/* a block of 16 by 16 of a frame of 67 by 45 in 4:2:0, which has 9 by 6 cells; list 0 leads 5/8 up and 9/8 to the right, list 1 two down, three left */
+static const struct asked block16 = {
+    .args = {.plane = 0, .x = 32, .y = 16, .w = 16, .h = 16, .depth = 8},
+    .grid = {.mi_row = 2, .mi_col = 4, .mi_rows = 6, .mi_cols = 9, .mi_size = KNOBSPINDLE_BLOCK_16X16},
+    .frame = {.width = 67, .height = 45, .subsampling_x = true, .subsampling_y = true},
+    .mvs = {.list0 = {{-5, 9}, {-5, 9}, {-5, 9}, {-5, 9}}, .list1 = {{16, -24}, {16, -24}, {16, -24}, {16, -24}}},
+    .ref_width = 67,
+    .ref_height = 45,
+};
+
+static void inter_reach(void)
+{
+    struct asked a = block16;
+    check_reach("whole reach", ask(a), KNOBSPINDLE_ACCEPTED, 30, 52, 12, 34); /* from 33.125 to 48.125, from 15.375 to 30.375 */
+    a.second = true;
+    check_reach("whole reach, list 1", ask(a), KNOBSPINDLE_ACCEPTED, 26, 48, 15, 37);
+    a = block16;
+    a.ref_width = 134, a.ref_height = 90; /* starts 1060 and 492, steps 32 */
+    check_reach("whole reach, scaled by two", ask(a), KNOBSPINDLE_ACCEPTED, 63, 100, 27, 64);
+    a.ref_width = 67, a.ref_height = 23; /* scale 8374 / 16384 down: 8 x 16 - 6 + 2 is 124, step 8 */
+    check_reach("whole reach, scaled by about a half", ask(a), KNOBSPINDLE_ACCEPTED, 30, 52, 4, 19);
+    a = block16;
+    for (int b = 0; b < 4; b++) /* clamped: the block's last row is 5 above the frame, its first column 75 */
+        a.mvs.list0[b] = (knobspindle_mv){-32767, 32767};
+    check_reach("whole reach, clamped", ask(a), KNOBSPINDLE_ACCEPTED, 66, 66, 0, 0);
+
+    /* chroma is 34 by 23: half of an odd size, rounded up */
+    a = block16;
+    a.args.plane = 1, a.args.x = 16, a.args.y = 8, a.args.w = 8, a.args.h = 8;
+    check_reach("whole reach, chroma", ask(a), KNOBSPINDLE_ACCEPTED, 13, 27, 4, 18); /* from 265 / 16 to 377 / 16, from 123 / 16 to 235 / 16 */
+    a.args.plane = 2, a.args.x = 32, a.args.y = 16;
+    a.grid.mi_row = 4, a.grid.mi_col = 8;
+    memset(&a.mvs, 0, sizeof a.mvs);
+    check_reach("whole reach, chroma of an odd size", ask(a), KNOBSPINDLE_ACCEPTED, 29, 33, 13, 22);
+    a = block16;
+    a.args.plane = 1, a.args.x = 16, a.args.y = 8, a.args.w = 4, a.args.h = 4;
+    a.grid.mi_size = KNOBSPINDLE_BLOCK_4X4;
+    memset(&a.mvs, 0, sizeof a.mvs);
+    a.mvs.list0[3].col = 64; /* the mean of the four is 16: a sample of chroma */
+    check_reach("whole reach, chroma below 8x8", ask(a), KNOBSPINDLE_ACCEPTED, 14, 24, 5, 15);
+
+    /* the last block leaves the destination, 72 by 48: it is asked with 8 by 8, its part inside; the vector leads 20 up and 40 to the left */
+    a = block16;
+    a.args.x = 64, a.args.y = 40;
+    a.grid.mi_row = 5, a.grid.mi_col = 8;
+    for (int b = 0; b < 4; b++)
+        a.mvs.list0[b] = (knobspindle_mv){-160, -320};
+    check_reach("whole reach, all of the block", ask(a), KNOBSPINDLE_ACCEPTED, 21, 43, 17, 39);
+    a.args.w = 8, a.args.h = 8;
+    check_reach("whole reach, the part inside", ask(a), KNOBSPINDLE_ACCEPTED, 21, 35, 17, 31);
+
+    /* neither filter, depth and averaging nor the other list is looked at */
+    a = block16;
+    a.args.filter = 4, a.args.depth = 9, a.args.average = true;
+    a.mvs.list1[2].row = -32768;
+    check_reach("whole reach, not looked at", ask(a), KNOBSPINDLE_ACCEPTED, 30, 52, 12, 34);
+    a.second = true;
+    check_reach("whole reach, list 1 out of range", ask(a), KNOBSPINDLE_VECTOR, 0, 0, 0, 0);
+    a.mvs.list1[2].row = 16, a.mvs.list0[0].col = 32768;
+    check_reach("whole reach, list 0 not looked at", ask(a), KNOBSPINDLE_ACCEPTED, 26, 48, 15, 37);
+    a.second = false;
+    check_reach("whole reach, list 0 out of range", ask(a), KNOBSPINDLE_VECTOR, 0, 0, 0, 0);
+}
+
+/* one change of block16, and the number that comes back; refused, zeros beside it */
+static void changed(const char *what, struct asked a, uint32_t answer)
+{
+    knobspindle_reach r = ask(a);
+    if (answer == KNOBSPINDLE_ACCEPTED)
+        check(what, r.answer, KNOBSPINDLE_ACCEPTED);
+    else
+        check_reach(what, r, answer, 0, 0, 0, 0);
+}
+
+static void inter_reach_refusals(void)
+{
+#define CHANGED(change, number)                                    \
+    do {                                                           \
+        struct asked a = block16;                                  \
+        change;                                                    \
+        changed("whole reach, " #change, a, KNOBSPINDLE_##number); \
+    } while (0)
+    CHANGED(a.grid.mi_size = 12, ACCEPTED);
+    CHANGED(a.grid.mi_size = 13, BLOCK);
+    CHANGED(a.args.block = 3, ACCEPTED);
+    CHANGED(a.args.block = 4, BLOCK);
+    CHANGED(a.args.plane = 2, ACCEPTED);
+    CHANGED(a.args.plane = 3, BLOCK);
+    CHANGED(a.args.w = 0, BLOCK);
+    CHANGED(a.args.w = 1, ACCEPTED);
+    CHANGED(a.args.w = 64, ACCEPTED);
+    CHANGED(a.args.w = 65, BLOCK);
+    CHANGED(a.args.h = 0, BLOCK);
+    CHANGED(a.args.h = 1, ACCEPTED);
+    CHANGED(a.args.h = 64, ACCEPTED);
+    CHANGED(a.args.h = 65, BLOCK);
+    CHANGED((a.args.plane = 1, a.args.block = 1, a.grid.mi_size = 0, a.frame.subsampling_x = false), ACCEPTED); /* 4:4:0: 1 and 3, but no 2 and 4 */
+    CHANGED((a.args.plane = 1, a.args.block = 2, a.grid.mi_size = 0, a.frame.subsampling_x = false), BLOCK);
+    CHANGED(a.grid.mi_row = -1, GRID);
+    CHANGED(a.grid.mi_row = 0, ACCEPTED);
+    CHANGED(a.grid.mi_row = 5, ACCEPTED);
+    CHANGED(a.grid.mi_row = 6, GRID);
+    CHANGED(a.grid.mi_col = -1, GRID);
+    CHANGED(a.grid.mi_col = 0, ACCEPTED);
+    CHANGED(a.grid.mi_col = 8, ACCEPTED);
+    CHANGED(a.grid.mi_col = 9, GRID);
+    CHANGED((a.grid.mi_row = 0, a.grid.mi_rows = 0), GRID);
+    CHANGED((a.grid.mi_row = 0, a.grid.mi_rows = 1), ACCEPTED);
+    CHANGED(a.grid.mi_rows = 8192, ACCEPTED);
+    CHANGED(a.grid.mi_rows = 8193, GRID);
+    CHANGED((a.grid.mi_col = 0, a.grid.mi_cols = 0), GRID);
+    CHANGED((a.grid.mi_col = 0, a.grid.mi_cols = 1), ACCEPTED);
+    CHANGED(a.grid.mi_cols = 8192, ACCEPTED);
+    CHANGED(a.grid.mi_cols = 8193, GRID);
+    CHANGED(a.ref_width = 134, ACCEPTED); /* twice the frame, and a sixteenth of it rounded up */
+    CHANGED(a.ref_width = 135, SIZE);
+    CHANGED(a.ref_width = 5, ACCEPTED);
+    CHANGED(a.ref_width = 4, SIZE);
+    CHANGED(a.ref_height = 90, ACCEPTED);
+    CHANGED(a.ref_height = 91, SIZE);
+    CHANGED(a.ref_height = 3, ACCEPTED);
+    CHANGED(a.ref_height = 2, SIZE);
+    CHANGED((a.frame.width = a.ref_width = 0), SIZE);
+    CHANGED((a.frame.width = a.ref_width = 1), ACCEPTED);
+    CHANGED((a.frame.width = a.ref_width = 65536), ACCEPTED);
+    CHANGED((a.frame.width = a.ref_width = 65537), SIZE);
+    CHANGED((a.frame.height = a.ref_height = 0), SIZE);
+    CHANGED((a.frame.height = a.ref_height = 1), ACCEPTED);
+    CHANGED((a.frame.height = a.ref_height = 65536), ACCEPTED);
+    CHANGED((a.frame.height = a.ref_height = 65537), SIZE);
+    CHANGED(a.args.x = -1, START);
+    CHANGED(a.args.x = 0, ACCEPTED);
+    CHANGED(a.args.x = 65535, ACCEPTED);
+    CHANGED(a.args.x = 65536, START);
+    CHANGED(a.args.y = -1, START);
+    CHANGED(a.args.y = 0, ACCEPTED);
+    CHANGED(a.args.y = 65535, ACCEPTED);
+    CHANGED(a.args.y = 65536, START);
+    CHANGED(a.mvs.list0[3].row = 32767, ACCEPTED);
+    CHANGED(a.mvs.list0[3].row = 32768, VECTOR);
+    CHANGED(a.mvs.list0[0].col = -32767, ACCEPTED);
+    CHANGED(a.mvs.list0[0].col = -32768, VECTOR);
+    CHANGED((a.args.w = 65, a.grid.mi_row = 6, a.ref_width = 135, a.args.x = -1, a.mvs.list0[0].col = 32768), BLOCK);
+    CHANGED((a.grid.mi_row = 6, a.ref_width = 135, a.args.x = -1, a.mvs.list0[0].col = 32768), GRID);
+    CHANGED((a.ref_width = 135, a.args.x = -1, a.mvs.list0[0].col = 32768), SIZE);
+    CHANGED((a.args.x = -1, a.mvs.list0[0].col = 32768), START);
+#undef CHANGED
+}
+
+/* How many samples of a block of 13 by 9 change if of a plane of 40 by 36 only a rectangle is kept: what stands elsewhere, between the rows and at the
+ * bands' ends too, is turned round or, where wild, far above the depth. */
+static size_t differing(knobspindle_stepping from, size_t filter, bool average, bool wild, knobspindle_reach keep)
+{
+    enum { WIDTH = 40, HEIGHT = 36, STRIDE = 45, ALL = HEIGHT * STRIDE, BLOCK = 13 * 9 };
+    static uint16_t plane[ALL], part[ALL], want[BLOCK], got[BLOCK];
+    size_t differ = 0;
+    for (size_t i = 0; i < ALL; i++) {
+        size_t row = i / STRIDE, col = i % STRIDE;
+        plane[i] = (uint16_t)((i * 37 + i / 7 * 11) % 251);
+        if (row >= keep.first_row && row <= keep.last_row && col >= keep.first_col && col <= keep.last_col)
+            part[i] = plane[i];
+        else
+            part[i] = wild ? 65535 : 255 - plane[i];
+    }
+    knobspindle_block_shape shape = {.w = 13, .h = 9, .filter = filter, .depth = 8, .average = average};
+    for (size_t above = 0; above <= HEIGHT; above += 12) {
+        knobspindle_plane_geom geom = {.width = WIDTH, .height = HEIGHT, .stride = STRIDE, .upper_rows = above};
+        size_t n = above * STRIDE;
+        uint32_t answer = knobspindle_block_inter_predict(shape, geom, from, plane, n, plane + n, ALL - n, geom, from, plane, n, plane + n, ALL - n,
+                                                          room, KNOBSPINDLE_ROOM, want, BLOCK, 13);
+        answer |= knobspindle_block_inter_predict(shape, geom, from, part, n, part + n, ALL - n, geom, from, part, n, part + n, ALL - n, room,
+                                                  KNOBSPINDLE_ROOM, got, BLOCK, 13);
+        check("kept: answers", answer, KNOBSPINDLE_ACCEPTED);
+        for (size_t i = 0; i < BLOCK; i++)
+            differ += got[i] != want[i];
+    }
+    return differ;
+}
+
+/* What a block reaches is enough of a plane. A line less is too little: the sharp filter's first and last taps are not zero at the ends of these blocks. */
+static void kept(void)
+{
+    static const knobspindle_stepping from[] = {
+        {200, 150, 16, 16}, {197, 155, 16, 16}, {203, 149, 16, 16}, {101, 70, 20, 13},   {7, 3, 32, 32},
+        {215, 311, 1, 3},   {-37, 205, 20, 13}, {500, 460, 31, 9},  {-300, -90, 16, 16}, {700, -500, 16, 16},
+    };
+    for (size_t i = 0; i < sizeof from / sizeof *from; i++)
+        for (int wild = 0; wild < 2; wild++) {
+            knobspindle_reach r = knobspindle_block_reach(13, 9, 40, 36, from[i]);
+            check("kept: answer", r.answer, KNOBSPINDLE_ACCEPTED);
+            for (size_t filter = 0; filter < 4; filter++)
+                check("kept: samples that differ", (long long)differing(from[i], filter, filter % 2, wild, r), 0);
+            if (r.first_col == r.last_col || r.first_row == r.last_row)
+                continue;
+            knobspindle_reach less[4] = {r, r, r, r};
+            less[0].first_col++, less[1].last_col--, less[2].first_row++, less[3].last_row--;
+            for (int side = 0; side < 4; side++)
+                check("kept, a line less: some differ", differing(from[i], KNOBSPINDLE_FILTER_SHARP, false, wild, less[side]) != 0, true);
+        }
+}
+
+/* docs/HOST.md, 'Waiting for rows': a host that decodes two references row by row, no further than the next block reaches, and releases the rows that no
+ * block to come reaches. What is not finished is zero, what was released is far above the depth. */
+struct rows {
+    int32_t frame_width, frame_height;
+    size_t width, height, finished, released; /* of the plane: rows released to finished - 1 are there */
+    uint16_t complete[55 * 80], there[55 * 80];
+};
+
+struct job {
+    knobspindle_inter_pred_args args;
+    knobspindle_block_grid grid;
+    knobspindle_block_mvs mvs;
+    struct rows *from[2]; /* by lists; the second only where averaged */
+    knobspindle_reach reach[2];
+};
+
+enum lending { COMPLETE, AS_IT_IS, FINISHED_ALONE, UNRELEASED_ALONE }; /* the last two have the rest from elsewhere */
+
+static const knobspindle_frame_geom odd_frame = {.width = 37, .height = 53, .subsampling_x = true, .subsampling_y = true};
+
+static void finish(struct rows *r, size_t last)
+{
+    for (; r->finished <= last; r->finished++)
+        memcpy(r->there + r->finished * r->width, r->complete + r->finished * r->width, r->width * sizeof *r->there);
+}
+
+static void release(struct rows *r, size_t before)
+{
+    for (; r->released < before && r->released < r->finished; r->released++)
+        memset(r->there + r->released * r->width, 0xff, r->width * sizeof *r->there);
+}
+
+static void predict_job(const struct job *j, enum lending how, uint16_t *out)
+{
+    static const uint16_t elsewhere[55 * 80]; /* for rows that make no difference: any memory of their length */
+    knobspindle_dest_geom decoded = j->args.plane == 0 ? (knobspindle_dest_geom){40, 56} : (knobspindle_dest_geom){20, 28};
+    knobspindle_ref_geom geom[2] = {{0, 0, 0, 0}, {0, 0, 0, 0}};
+    const uint16_t *upper[2] = {NULL, NULL}, *lower[2] = {NULL, NULL};
+    size_t upper_len[2] = {0, 0}, lower_len[2] = {0, 0};
+    for (int l = 0; l < 2 && j->from[l] != NULL; l++) {
+        const struct rows *r = j->from[l];
+        size_t above = how == FINISHED_ALONE ? j->reach[l].last_row + 1 : how == UNRELEASED_ALONE ? j->reach[l].first_row : r->height;
+        geom[l] = (knobspindle_ref_geom){.frame_width = r->frame_width, .frame_height = r->frame_height, .stride = r->width, .upper_rows = above};
+        upper[l] = how == COMPLETE ? r->complete : how == UNRELEASED_ALONE ? elsewhere : r->there;
+        lower[l] = how == UNRELEASED_ALONE ? r->there + above * r->width : elsewhere;
+        upper_len[l] = above * r->width, lower_len[l] = (r->height - above) * r->width;
+    }
+    uint32_t answer = knobspindle_predict_inter(j->args, j->grid, odd_frame, j->mvs, geom[0], upper[0], upper_len[0], lower[0], lower_len[0], geom[1],
+                                                upper[1], upper_len[1], lower[1], lower_len[1], room, KNOBSPINDLE_ROOM, out,
+                                                decoded.width * decoded.height, decoded);
+    check("waiting, a block: answer", answer, KNOBSPINDLE_ACCEPTED);
+}
+
+/* How many samples are not those from complete references. The host takes first rows to be so many lower and last rows so many higher than it was told;
+ * most is how many rows of the first reference's luma were there at once. */
+static size_t waiting(enum lending how, size_t lower, size_t higher, size_t *most)
+{
+    static const knobspindle_mv mvs[12] = {{5, -11}, {61, 3},  {-27, 9},  {83, 77},  {-45, 1},   {13, -90},
+                                           {29, 31}, {-71, 7}, {101, -3}, {-9, 200}, {-203, 19}, {3, -37}};
+    static const int32_t sizes[2][2] = {{37, 53}, {55, 80}}; /* the frame's own, and a scaled reference: steps of 23 and 24 */
+    static struct rows planes[2][2]; /* by references, luma before chroma */
+    static struct job jobs[24];
+    static uint16_t want[40 * 56], got[40 * 56];
+    size_t differ = 0, n = 0;
+    for (int i = 0; i < 4; i++) {
+        struct rows *r = &planes[i / 2][i % 2];
+        *r = (struct rows){.frame_width = sizes[i / 2][0], .frame_height = sizes[i / 2][1]};
+        r->width = (size_t)(i % 2 == 0 ? r->frame_width : (r->frame_width + 1) / 2);
+        r->height = (size_t)(i % 2 == 0 ? r->frame_height : (r->frame_height + 1) / 2);
+        for (size_t k = 0; k < r->width * r->height; k++)
+            r->complete[k] = (uint16_t)(100 + (k * 37 + k / 5 * 11 + (size_t)i) % 101);
+    }
+    for (int b = 0; b < 12; b++) /* blocks of 16 by 16, three across: from the first, from the scaled one, from both */
+        for (size_t plane = 0; plane < 2; plane++) {
+            struct job *j = &jobs[n++];
+            size_t side = plane == 0 ? 16 : 8, kind = (size_t)(b + b / 3) % 3;
+            knobspindle_inter_pred_args args = {.plane = plane, .w = side, .h = side, .filter = KNOBSPINDLE_FILTER_SHARP, .depth = 8, .average = kind == 2};
+            args.x = b % 3 * (int32_t)side, args.y = b / 3 * (int32_t)side;
+            *j = (struct job){.args = args, .grid = {b / 3 * 2, b % 3 * 2, 7, 5, KNOBSPINDLE_BLOCK_16X16}};
+            j->from[0] = &planes[kind % 2][plane], j->from[1] = kind == 2 ? &planes[1][plane] : NULL;
+            for (int s = 0; s < 4; s++)
+                j->mvs.list0[s] = mvs[b], j->mvs.list1[s] = mvs[(b + 5) % 12];
+            /* the blocks on the right and below leave the destination, 5 by 7 cells: the part inside */
+            size_t right = plane == 0 ? 40 : 20, bottom = plane == 0 ? 56 : 28, x = (size_t)args.x, y = (size_t)args.y;
+            args.w = x + side > right ? right - x : side;
+            args.h = y + side > bottom ? bottom - y : side;
+            for (int l = 0; l < 2 && j->from[l] != NULL; l++) {
+                const struct rows *r = j->from[l];
+                j->reach[l] = knobspindle_inter_reach(args, j->grid, odd_frame, j->mvs, l == 1, r->frame_width, r->frame_height);
+                check("waiting, a block's reach: answer", j->reach[l].answer, KNOBSPINDLE_ACCEPTED);
+                j->reach[l].first_row += lower;
+                j->reach[l].last_row -= higher;
+            }
+        }
+    *most = 0;
+    for (size_t k = 0; k < n; k++) {
+        for (int l = 0; l < 2 && jobs[k].from[l] != NULL; l++)
+            finish(jobs[k].from[l], jobs[k].reach[l].last_row);
+        for (int i = 0; i < 4; i++) {
+            struct rows *r = &planes[i / 2][i % 2];
+            size_t needed = r->height;
+            for (size_t later = k; later < n; later++)
+                for (int l = 0; l < 2; l++)
+                    if (jobs[later].from[l] == r && jobs[later].reach[l].first_row < needed)
+                        needed = jobs[later].reach[l].first_row;
+            release(r, needed);
+        }
+        if (planes[0][0].finished - planes[0][0].released > *most)
+            *most = planes[0][0].finished - planes[0][0].released;
+        memset(want, 0, sizeof want);
+        memset(got, 0, sizeof got);
+        predict_job(&jobs[k], COMPLETE, want);
+        predict_job(&jobs[k], how, got);
+        for (size_t i = 0; i < 40 * 56; i++)
+            differ += got[i] != want[i];
+    }
+    return differ;
+}
+
+static void waiting_for_rows(void)
+{
+    size_t most;
+    check("waiting: samples that differ", (long long)waiting(AS_IT_IS, 0, 0, &most), 0);
+    check("waiting: fewer rows at once than the reference has", most < 53, true);
+    check("waiting, finished rows alone: samples that differ", (long long)waiting(FINISHED_ALONE, 0, 0, &most), 0);
+    check("waiting, unreleased rows alone: samples that differ", (long long)waiting(UNRELEASED_ALONE, 0, 0, &most), 0);
+    check("waiting, a row too few: some differ", waiting(AS_IT_IS, 0, 1, &most) != 0, true);
+    check("waiting, a row released too early: some differ", waiting(AS_IT_IS, 1, 0, &most) != 0, true);
+    check("waiting, finished rows alone, a row too few: some differ", waiting(FINISHED_ALONE, 0, 1, &most) != 0, true);
+    check("waiting, unreleased rows alone, a row too few: some differ", waiting(UNRELEASED_ALONE, 1, 0, &most) != 0, true);
+}
+
 static void append_and_best(void)
 {
     /* one cell, the block's own: no place is inside, so the search gives zeros */
@@ -483,6 +902,11 @@ int main(void)
     predict_inter();
     two_sizes();
     cut();
+    block_reach();
+    inter_reach();
+    inter_reach_refusals();
+    kept();
+    waiting_for_rows();
     printf("host: %d checks, %d failed\n", checks, failed);
     return failed != 0;
 }

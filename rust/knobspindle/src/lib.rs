@@ -11,6 +11,7 @@
 //! select_mv -> clamp_mv -> scale_mv                     an Mv, a PlaneMv (sixteenths of the plane's sample), a Stepping
 //! block_inter_predict                                   samples from a Stepping
 //! predict_inter                                         all of the last four at once
+//! block_reach, inter_reach                              the columns and rows of a reference that matter to the two before (Reach)
 //! ```
 
 mod error;
@@ -21,7 +22,9 @@ mod vectors;
 
 pub use error::Error;
 pub use numbers::{BlockSize, Filter, Mode, RefFrame};
-pub use samples::{block_inter_predict, predict_inter, BlockShape, Dest, FrameGeom, InterPred, Plane, Reference, Room, Source, ROOM};
+pub use samples::{
+    block_inter_predict, block_reach, inter_reach, predict_inter, BlockShape, Dest, FrameGeom, InterPred, Plane, Reach, Reference, Room, Source, ROOM,
+};
 pub use vectors::{
     append_sub8x8_mvs, clamp_mv, find_best_ref_mvs, find_mv_refs, scale_mv, select_mv, BlockGrid, BlockMvs, List, Mv, MvRefs, Place, PlaneMv,
     Previous, ScaleGeom, Stepping, Subsampling, Tables,

@@ -108,6 +108,15 @@ pub struct DestGeom {
     pub height: usize,
 }
 
+#[repr(C)]
+pub struct Reach {
+    pub answer: u32,
+    pub first_col: usize,
+    pub last_col: usize,
+    pub first_row: usize,
+    pub last_row: usize,
+}
+
 macro_rules! boundary {
     ($(fn $name:ident($($arg:ident: $kind:ty),* $(,)?) -> $result:ty;)*) => {
         #[cfg(target_arch = "x86_64")]
@@ -159,10 +168,16 @@ boundary! {
         room: *mut u16, room_len: usize, out: *mut u16, out_len: usize, stride: usize,
     ) -> u32;
 
+    fn knobspindle_block_reach(w: usize, h: usize, width: i32, height: i32, from: Stepping) -> Reach;
+
     fn knobspindle_predict_inter(
         args: InterPredArgs, grid: BlockGrid, frame: FrameGeom, mvs: BlockMvs,
         geom: RefGeom, upper: *const u16, upper_len: usize, lower: *const u16, lower_len: usize,
         geom2: RefGeom, upper2: *const u16, upper2_len: usize, lower2: *const u16, lower2_len: usize,
         room: *mut u16, room_len: usize, out: *mut u16, out_len: usize, dest: DestGeom,
     ) -> u32;
+
+    fn knobspindle_inter_reach(
+        args: InterPredArgs, grid: BlockGrid, frame: FrameGeom, mvs: BlockMvs, second: bool, ref_width: i32, ref_height: i32,
+    ) -> Reach;
 }

@@ -1,7 +1,9 @@
 //! The calls on samples.
 
+use std::ops::RangeInclusive;
+
 use crate::error::judged;
-use crate::{raw, BlockGrid, BlockMvs, Error, Filter, Stepping};
+use crate::{raw, BlockGrid, BlockMvs, Error, Filter, List, Stepping};
 
 /// A reference plane, lent in two bands with one stride: the upper one has rows 0 to `upper_rows` - 1, the lower one the rest. A band of k rows
 /// holds (k - 1) x stride + width samples or more, or none if k is 0. Width and height are the visible ones (see [`Reference`]): beyond them every
@@ -155,6 +157,45 @@ pub fn block_inter_predict(
     judged(answer, ())
 }
 
+/// The columns and rows of a reference's plane that matter to a prediction. What samples outside hold makes no difference to its answer or its output:
+/// they may be unfinished, or released and overwritten. But they are lent, since a plane's lengths are checked; a band without any row of the rectangle
+/// may be a spare slice of the right length.
+#[derive(Clone, Debug, PartialEq, Eq, Hash)]
+pub struct Reach {
+    /// Columns of the plane.
+    pub cols: RangeInclusive<usize>,
+    /// Rows of the plane.
+    pub rows: RangeInclusive<usize>,
+}
+
+fn reached(r: raw::Reach) -> Result<Reach, Error> {
+    judged(r.answer, Reach { cols: r.first_col..=r.last_col, rows: r.first_row..=r.last_row })
+}
+
+/// How far a block of w x h samples reaches in a plane of width x height: columns floor(`start_x` / 16) - 3 to
+/// floor((`start_x` + `step_x` x (w - 1)) / 16) + 4, rows alike, each end held into the plane. That is what matters to [`block_inter_predict`], whatever
+/// its filter.
+///
+/// # Errors
+/// [`Error::Block`], [`Error::Size`], [`Error::Start`].
+///
+/// # Examples
+#[cfg_attr(target_arch = "x86_64", doc = "```")]
+#[cfg_attr(not(target_arch = "x86_64"), doc = "```no_run")]
+/// use knobspindle::{block_reach, Error, Stepping};
+///
+/// // from column 20 and row 78.5 of 100 x 80: three before the first and four after the last, as far as the plane goes
+/// let from = Stepping { start_x: 320, start_y: 1256, step_x: 16, step_y: 16 };
+/// let reach = block_reach(8, 4, 100, 80, from)?;
+/// assert_eq!((reach.cols, reach.rows), (17..=31, 75..=79));
+/// assert_eq!(block_reach(65, 4, 100, 80, from), Err(Error::Block));
+/// # Ok::<(), Error>(())
+/// ```
+pub fn block_reach(w: usize, h: usize, width: i32, height: i32, from: Stepping) -> Result<Reach, Error> {
+    // SAFETY: numbers alone cross.
+    reached(unsafe { raw::knobspindle_block_reach(w, h, width, height, from) })
+}
+
 /// A block for the whole prediction.
 #[derive(Clone, Copy, Debug)]
 pub struct InterPred {
@@ -169,6 +210,22 @@ pub struct InterPred {
     pub block: usize,
     /// Size, filter and depth.
     pub shape: BlockShape,
+}
+
+impl InterPred {
+    fn args(&self, average: bool) -> raw::InterPredArgs {
+        raw::InterPredArgs {
+            plane: self.plane,
+            x: self.x,
+            y: self.y,
+            w: self.shape.w,
+            h: self.shape.h,
+            block: self.block,
+            filter: self.shape.filter as usize,
+            depth: self.shape.depth,
+            average,
+        }
+    }
 }
 
 /// The frame's visible size in luma samples, and whether chroma is halved, of the frame and of its references.
@@ -262,21 +319,10 @@ pub fn predict_inter(
     dest: Dest<'_>,
 ) -> Result<(), Error> {
     let other = second.copied().unwrap_or(NO_REFERENCE);
-    let args = raw::InterPredArgs {
-        plane: block.plane,
-        x: block.x,
-        y: block.y,
-        w: block.shape.w,
-        h: block.shape.h,
-        block: block.block,
-        filter: block.shape.filter as usize,
-        depth: block.shape.depth,
-        average: second.is_some(),
-    };
     // SAFETY: each pointer comes with the length of its slice; the library touches no more and keeps none; room and dest are borrowed alone.
     let answer = unsafe {
         raw::knobspindle_predict_inter(
-            args,
+            block.args(second.is_some()),
             grid,
             frame,
             *mvs,
@@ -298,4 +344,49 @@ pub fn predict_inter(
         )
     };
     judged(answer, ())
+}
+
+/// How far a whole prediction reaches in the plane of one list's reference, whose frame has this visible size in luma samples: what matters of it to
+/// [`predict_inter`]. The size is handed in and no [`Reference`], so that it can be asked before the reference has a row. Filter and depth are not looked
+/// at, nor is the other list. The rectangle is that of all w x h samples; of a block that leaves the destination, ask with the w and h of the part inside.
+///
+/// # Errors
+/// [`Error::Block`], [`Error::Grid`], [`Error::Size`], [`Error::Start`]; [`Error::Vector`] for a component of the list outside -32767..=32767.
+///
+/// # Examples
+/// The rows of a frame of 16 x 64 that a block waits for are finished, and those below are still being decoded:
+///
+#[cfg_attr(target_arch = "x86_64", doc = "```")]
+#[cfg_attr(not(target_arch = "x86_64"), doc = "```no_run")]
+/// use knobspindle::{inter_reach, predict_inter, BlockGrid, BlockMvs, BlockShape, BlockSize, Dest, Filter, FrameGeom, InterPred, List, Mv, Reference, Room};
+///
+/// let block = InterPred { plane: 0, x: 0, y: 16, block: 0, shape: BlockShape { w: 16, h: 16, filter: Filter::Regular, depth: 8 } };
+/// let grid = BlockGrid { mi_row: 2, mi_col: 0, mi_rows: 8, mi_cols: 2, mi_size: BlockSize::B16x16 as u8 };
+/// let frame = FrameGeom { width: 16, height: 64, subsampling_x: true, subsampling_y: true };
+/// let mvs = BlockMvs { list0: [Mv { row: 4, col: 0 }; 4], ..Default::default() }; // half a sample down
+/// let reach = inter_reach(block, grid, frame, &mvs, List::Zero, 16, 64)?;
+/// assert_eq!((reach.cols, reach.rows.clone()), (0..=15, 13..=35));
+///
+/// let mut last: Vec<u16> = (0..64 * 16).map(|i| i / 16 * 2).collect(); // 2 x row
+/// let ready = reach.rows.end() + 1;
+/// let (finished, decoding) = last.split_at_mut(ready * 16);
+/// let spare = vec![0; decoding.len()]; // stands for the rows that make no difference
+/// let from = Reference { frame_width: 16, frame_height: 64, stride: 16, upper_rows: ready, upper: finished, lower: &spare };
+/// let mut next = [0; 64 * 16];
+/// predict_inter(block, grid, frame, &mvs, &from, None, &mut Room::new(), Dest { samples: &mut next, width: 16, height: 64 })?;
+/// assert!((16..32).all(|row| next[row * 16] as usize == 2 * row + 1));
+/// decoding.fill(7); // not lent: a thread may have written here at the time
+/// # Ok::<(), knobspindle::Error>(())
+/// ```
+pub fn inter_reach(
+    block: InterPred,
+    grid: BlockGrid,
+    frame: FrameGeom,
+    mvs: &BlockMvs,
+    list: List,
+    ref_width: i32,
+    ref_height: i32,
+) -> Result<Reach, Error> {
+    // SAFETY: numbers alone cross.
+    reached(unsafe { raw::knobspindle_inter_reach(block.args(false), grid, frame, *mvs, list == List::One, ref_width, ref_height) })
 }

@@ -37,3 +37,15 @@ fn whole_prediction() {
 fn cut_into_rectangles() {
     checks::cut_into_rectangles();
 }
+
+#[test]
+#[cfg_attr(not(target_arch = "x86_64"), ignore = "the library is x86-64 code")]
+fn reach() {
+    checks::reach();
+}
+
+#[test]
+#[cfg_attr(not(target_arch = "x86_64"), ignore = "the library is x86-64 code")]
+fn waiting_for_rows() {
+    checks::waiting_for_rows();
+}

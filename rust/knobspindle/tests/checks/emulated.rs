@@ -11,5 +11,7 @@ pub extern "C" fn wrapper_checks() {
     checks::samples();
     checks::whole_prediction();
     checks::cut_into_rectangles();
-    println!("the Rust wrapper: 6 tests passed");
+    checks::reach();
+    checks::waiting_for_rows();
+    println!("the Rust wrapper: 8 tests passed");
 }

@@ -174,3 +174,60 @@ pub fn cut_into_rectangles() {
         assert_eq!(cut, whole, "{above} rows above");
     }
 }
+
+pub fn reach() {
+    let from = |start_x, start_y, step_x, step_y| Stepping { start_x, start_y, step_x, step_y };
+    let inside = from(320, 488, 16, 16);
+    assert_eq!(block_reach(8, 4, 100, 80, inside), Ok(Reach { cols: 17..=31, rows: 27..=37 }));
+    assert_eq!(block_reach(3, 1, 100, 80, from(-37, -21, 16, 16)), Ok(Reach { cols: 0..=3, rows: 0..=2 }));
+    assert_eq!(block_reach(8, 8, 100, 80, from(-200, 1440, 16, 16)), Ok(Reach { cols: 0..=0, rows: 79..=79 }));
+    assert_eq!(block_reach(64, 64, 200, 100, from(7, 1000, 32, 5)), Ok(Reach { cols: 0..=130, rows: 59..=86 }));
+    assert_eq!(block_reach(8, 65, 0, 80, from(320, 488, 16, 33)), Err(Error::Block));
+    assert_eq!(block_reach(8, 64, 0, 80, from(320, 488, 16, 33)), Err(Error::Size));
+    assert_eq!(block_reach(8, 64, 100, 80, from(320, 488, 16, 33)), Err(Error::Start));
+
+    // a frame of 67 x 45 in 4:2:0; list 1 has an illegal vector
+    let luma = InterPred { plane: 0, x: 32, y: 16, block: 0, shape: BlockShape { w: 16, h: 16, filter: Filter::Regular, depth: 9 } };
+    let grid = BlockGrid { mi_row: 2, mi_col: 4, mi_rows: 6, mi_cols: 9, mi_size: BlockSize::B16x16 as u8 };
+    let frame = FrameGeom { width: 67, height: 45, subsampling_x: true, subsampling_y: true };
+    let mvs = BlockMvs { list0: [mv(-5, 9); 4], list1: [mv(-32768, 0); 4] };
+    let asked = |block, list, mvs| inter_reach(block, grid, frame, mvs, list, 67, 45);
+    assert_eq!(asked(luma, List::Zero, &mvs), Ok(Reach { cols: 30..=52, rows: 12..=34 }));
+    assert_eq!(asked(luma, List::One, &mvs), Err(Error::Vector));
+    let other = BlockMvs { list0: [mv(0, 32768); 4], list1: [mv(16, -24); 4] };
+    assert_eq!(asked(luma, List::One, &other), Ok(Reach { cols: 26..=48, rows: 15..=37 }));
+    assert_eq!(inter_reach(luma, grid, frame, &mvs, List::Zero, 134, 90), Ok(Reach { cols: 63..=100, rows: 27..=64 }));
+    assert_eq!(inter_reach(luma, grid, frame, &mvs, List::Zero, 134, 91), Err(Error::Size));
+    let part = |plane, x, y, side| InterPred { plane, x, y, shape: BlockShape { w: side, h: side, ..luma.shape }, ..luma };
+    assert_eq!(asked(part(1, 16, 8, 8), List::Zero, &mvs), Ok(Reach { cols: 13..=27, rows: 4..=18 }));
+    assert_eq!(asked(part(0, 32, 16, 0), List::Zero, &mvs), Err(Error::Block));
+    assert_eq!(asked(part(0, -1, 16, 8), List::Zero, &mvs), Err(Error::Start));
+    assert_eq!(inter_reach(luma, BlockGrid { mi_row: 6, ..grid }, frame, &mvs, List::Zero, 67, 45), Err(Error::Grid));
+}
+
+/// A reference of which only the reached rows hold what they should gives the samples of the complete one; a row less gives others.
+pub fn waiting_for_rows() {
+    let complete: Vec<u16> = (0..40 * 48u32).map(|i| ((i * 37 + i / 7 * 11) % 251) as u16).collect();
+    let grid = BlockGrid { mi_row: 2, mi_col: 2, mi_rows: 6, mi_cols: 5, mi_size: BlockSize::B16x16 as u8 };
+    let frame = FrameGeom { width: 40, height: 48, subsampling_x: true, subsampling_y: true };
+    let block = InterPred { plane: 0, x: 16, y: 16, block: 0, shape: BlockShape { w: 16, h: 16, filter: Filter::Sharp, depth: 8 } };
+    let mut room = Room::new();
+    let mut predicted = |samples: &[u16], mvs: &BlockMvs| {
+        let from = Reference { frame_width: 40, frame_height: 48, stride: 40, upper_rows: 30, upper: &samples[..1200], lower: &samples[1200..] };
+        let mut out = vec![0; 40 * 48];
+        let dest = Dest { samples: &mut out, width: 40, height: 48 };
+        assert_eq!(predict_inter(block, grid, frame, mvs, &from, None, &mut room, dest), Ok(()));
+        out
+    };
+    for vector in [mv(3, -5), mv(-61, 7), mv(45, 93), mv(-99, -77)] {
+        let mvs = BlockMvs { list0: [vector; 4], ..Default::default() };
+        let rows = inter_reach(block, grid, frame, &mvs, List::Zero, 40, 48).unwrap().rows;
+        let kept = |first: usize, last: usize| -> Vec<u16> {
+            complete.iter().enumerate().map(|(i, &sample)| if (first..=last).contains(&(i / 40)) { sample } else { 65535 }).collect()
+        };
+        let want = predicted(&complete, &mvs);
+        assert_eq!(predicted(&kept(*rows.start(), *rows.end()), &mvs), want, "{vector:?}");
+        assert_ne!(predicted(&kept(rows.start() + 1, *rows.end()), &mvs), want, "{vector:?}, the first row missing");
+        assert_ne!(predicted(&kept(*rows.start(), rows.end() - 1), &mvs), want, "{vector:?}, the last row missing");
+    }
+}
