@@ -1,7 +1,7 @@
 /* Runs the same inputs through Knobspindle and through the Rust, in one program, and compares what they give. See tools/speed.
  *
  *   speed        every case on both sides, compared; then once more with a line before and after each call, for a trace to be cut at;
- *                where two filters stand beside each other, our own side alone with each
+ *                where two filters stand beside each other, our own side alone with each; and alone the calls that the Rust has not
  *   speed steps  the same under tools/steps.c, which counts between the two lines
  *   speed list   the cases: group, name
  *   speed time   nanoseconds of a call: side, case, time
@@ -315,6 +315,28 @@ static NEVER_INLINE void rust_predict(void)
 }
 #endif
 
+#ifdef HAVE_knobspindle_inter_reach
+static knobspindle_reach told;
+
+static NEVER_INLINE void ours_block_reach(void)
+{
+    const struct reference *p = &block_args.refs[0];
+    knobspindle_stepping from = {p->start_x, p->start_y, p->step_x, p->step_y};
+    told = knobspindle_block_reach(block_args.w, block_args.h, p->width, p->height, from);
+}
+
+static NEVER_INLINE void ours_inter_reach(void)
+{
+    const struct predict *a = &predict_args;
+    knobspindle_inter_pred_args args = {a->plane, a->x, a->y, a->w, a->h, a->block, a->filter, a->depth, a->average};
+    knobspindle_block_grid grid = {a->grid[0], a->grid[1], a->grid[2], a->grid[3], a->size};
+    knobspindle_frame_geom frame = {a->frame_width, a->frame_height, a->sub_x, a->sub_y};
+    knobspindle_block_mvs of;
+    memcpy(&of, a->vectors, sizeof of);
+    told = knobspindle_inter_reach(args, grid, frame, of, false, a->ref_width, a->ref_height);
+}
+#endif
+
 static void fill_outputs(void)
 {
     answer = 99;
@@ -606,6 +628,39 @@ static void predictions(void)
 }
 #endif
 
+#ifdef HAVE_knobspindle_inter_reach
+/* A call that the Rust has not: the rectangle is compared with its own ends, and our side is counted. */
+static void reach_case(const char *name, void (*ours)(void), size_t first_col, size_t last_col, size_t first_row, size_t last_row)
+{
+    if (list)
+        printf("reach\t%s\n", name);
+    if (list || timing)
+        return;
+    number++;
+    ours();
+    if (told.answer != 0 || told.first_col != first_col || told.last_col != last_col || told.first_row != first_row || told.last_row != last_row) {
+        differ++;
+        printf("DIFFERENT: %s: our answer is %u\n", name, told.answer);
+    }
+    traced("ours", name, ours);
+}
+
+static void reaches(void)
+{
+    place_block(16, 50, 50, 5, 9, 16, 8, false);
+    reach_case("block_reach, 16x16", ours_block_reach, 47, 69, 47, 69);
+    place_block(64, 50, 50, 5, 9, 20, 8, false);
+    reach_case("block_reach, 64x64 steps of 20", ours_block_reach, 47, 133, 47, 133);
+    predict_args = (struct predict){.x = 64, .y = 64, .w = 16, .h = 16, .size = 6, .sub_x = true, .sub_y = true, .grid = {8, 8, 30, 32},
+                                    .frame_width = WIDTH, .frame_height = HEIGHT, .ref_width = WIDTH, .ref_height = HEIGHT};
+    reach_case("inter_reach, 16x16", ours_inter_reach, 61, 83, 61, 83);
+    predict_args.ref_width = 500, predict_args.ref_height = 480;
+    reach_case("inter_reach, 16x16, reference of twice the size", ours_inter_reach, 125, 162, 125, 162);
+    predict_args.plane = 1, predict_args.x = predict_args.y = 32, predict_args.w = predict_args.h = 8;
+    reach_case("inter_reach, its chroma at 4:2:0", ours_inter_reach, 61, 82, 61, 82);
+}
+#endif
+
 int main(int argc, char **argv)
 {
     list = argc == 2 && !strcmp(argv[1], "list");
@@ -626,6 +681,9 @@ int main(int argc, char **argv)
 #endif
 #ifdef HAVE_knobspindle_predict_inter
     predictions();
+#endif
+#ifdef HAVE_knobspindle_inter_reach
+    reaches();
 #endif
     if (!list && !timing)
         printf("%d cases, %d differences\n", number, differ);
