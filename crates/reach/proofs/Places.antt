@@ -1,6 +1,6 @@
--- Where the ends of the rectangle lie: every place that a tap reads is between them, they are in the plane, and more positions reach no less far.
--- Assumes nothing.
-use mathlib.Core.Path.{_≡_, refl, ap}
+-- Where the ends of the rectangle lie: every place that a tap reads is between them, they are read themselves, they are in the plane, and more
+-- positions reach no less far. Assumes nothing.
+use mathlib.Core.Path.{_≡_, refl, sym, ap, _∙_}
 use Prim.Native.Nat.{ℕ, suc, _+_, _-_, _*_, _/_, _<_, _≤_, min}
 use native.Mathlib.Nat.{mul-le-mul-left, min-le-right}
 use native.Mathlib.Omega.{arith}
@@ -50,6 +50,30 @@ in-reach last s step n i t lt t8 =
     let b = last-is last s step n (u .q + step * (n - 1)) (u .k) (at (n - 1)) in
     let c = place-lifted last (along s step i) (u .q + step * i) (u .k) t (at i) in
     (omega arith, omega arith)
+
+-- and both ends are read: the first by the first tap at the first position
+pub first-end-read : (last : ℕ) (s : ℤ) (step : ℕ) → place last (along s step 0) 0 ≡ firstRead last s
+first-end-read last s step =
+    let u = up s in
+    place-lifted last (along s step 0) (u .q + step * 0) (u .k) 0 (lifted _ _ (u .k) (diff-along step 0 (u .is)))
+    ∙ ap (λ (m : ℕ). min m last) (same (u .q) (u .k) step)
+    ∙ sym (first-is last s (u .q) (u .k) (lifted s (u .q) (u .k) (u .is)))
+  where
+    same : (q k step : ℕ) → (q + step * 0) / 16 + 0 - (k + 3) ≡ q / 16 - (k + 3)
+    same q k step = let e : q + step * 0 ≡ q = omega arith in rw e (omega arith)
+
+-- the last by the last tap at the last position
+pub last-end-read : (last : ℕ) (s : ℤ) (step n : ℕ) → place last (along s step (n - 1)) 7 ≡ lastRead last s step n
+last-end-read last s step n =
+    let u = up s in
+    let q = u .q + step * (n - 1) in
+    let at = lifted (along s step (n - 1)) q (u .k) (diff-along step (n - 1) (u .is)) in
+    place-lifted last (along s step (n - 1)) q (u .k) 7 at
+    ∙ ap (λ (m : ℕ). min m last) (same q (u .k))
+    ∙ sym (last-is last s step n q (u .k) at)
+  where
+    same : (q k : ℕ) → q / 16 + 7 - (k + 3) ≡ q / 16 + 4 - k
+    same q k = omega arith
 
 -- a last end is in the plane
 last-le : (last : ℕ) (z : ℤ) (step n : ℕ) → lastRead last z step n ≤ last
