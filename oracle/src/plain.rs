@@ -52,43 +52,18 @@ pub fn predict_inter(a: &PredictArgs, dst: &mut [u16]) {
 }
 
 fn plane_reference(a: &PredictArgs, list: usize) -> Reference {
-    let one = one_list(a, list);
-    let (width, height) = plane_size(&one);
+    let (width, height) = plane_size(a, list);
     Reference {
         bands: Bands {
             width,
             height,
             ..a.refs[list].bands.clone()
         },
-        at: start_and_step(&one),
+        at: start_and_step(a, list),
     }
 }
 
-/// What a whole prediction says of one list: the arguments of that list's reach.
-pub fn one_list(a: &PredictArgs, list: usize) -> InterReachArgs {
-    InterReachArgs {
-        plane: a.plane,
-        x: a.x,
-        y: a.y,
-        w: a.w,
-        h: a.h,
-        block: a.block,
-        filter: a.filter,
-        depth: a.depth,
-        average: a.average,
-        grid: a.grid,
-        frame_width: a.frame_width,
-        frame_height: a.frame_height,
-        sub_x: a.sub_x,
-        sub_y: a.sub_y,
-        vectors: a.vectors,
-        second: list == 1,
-        ref_width: a.refs[list].frame_width,
-        ref_height: a.refs[list].frame_height,
-    }
-}
-
-fn plane_size(a: &InterReachArgs) -> (i32, i32) {
+fn plane_size(a: &PredictArgs, list: usize) -> (i32, i32) {
     let halved = |size: i32, sub: bool| {
         if a.plane > 0 && sub {
             (size + 1) / 2
@@ -96,13 +71,17 @@ fn plane_size(a: &InterReachArgs) -> (i32, i32) {
             size
         }
     };
-    (halved(a.ref_width, a.sub_x), halved(a.ref_height, a.sub_y))
+    let frame = &a.refs[list];
+    (
+        halved(frame.frame_width, a.sub_x),
+        halved(frame.frame_height, a.sub_y),
+    )
 }
 
-pub fn start_and_step(a: &InterReachArgs) -> Scaled {
+pub fn start_and_step(a: &PredictArgs, list: usize) -> Scaled {
     let vector = door::select_mv(&SelectArgs {
         vectors: a.vectors,
-        second: a.second,
+        second: list == 1,
         plane: a.plane,
         mi_size: a.grid.mi_size,
         block: a.block,
@@ -117,8 +96,8 @@ pub fn start_and_step(a: &InterReachArgs) -> Scaled {
         sub_y: a.sub_y,
     });
     door::scale_mv(&ScaleArgs {
-        ref_width: a.ref_width,
-        ref_height: a.ref_height,
+        ref_width: a.refs[list].frame_width,
+        ref_height: a.refs[list].frame_height,
         frame_width: a.frame_width,
         frame_height: a.frame_height,
         sub_x: a.sub_x,
@@ -196,14 +175,15 @@ fn ends(start: i32, step: i32, count: usize, extent: i32) -> (usize, usize) {
     (held(first), held(last))
 }
 
-/// The same of a whole prediction: its start and steps are the door's, as in `predict_inter`.
-pub fn inter_reach(a: &InterReachArgs) -> Reach {
-    let (width, height) = plane_size(a);
+/// The same of a whole prediction, in the plane of one list's reference: its start and steps are the
+/// door's, as in `predict_inter`. Of bands and destination nothing is looked at.
+pub fn inter_reach(a: &PredictArgs, list: usize) -> Reach {
+    let (width, height) = plane_size(a, list);
     block_reach(&BlockReachArgs {
         w: a.w,
         h: a.h,
         width,
         height,
-        at: start_and_step(a),
+        at: start_and_step(a, list),
     })
 }

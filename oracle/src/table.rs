@@ -78,12 +78,7 @@ pub fn scale_mv(a: &ScaleArgs) -> u32 {
     if wrong_plane(a.plane) {
         return BLOCK;
     }
-    if wrong_extent(a.frame_width)
-        || wrong_extent(a.frame_height)
-        || wrong_extent(a.ref_width)
-        || wrong_extent(a.ref_height)
-        || !allowed(a.frame_width, a.ref_width)
-        || !allowed(a.frame_height, a.ref_height)
+    if wrong_reference(a.frame_width, a.ref_width) || wrong_reference(a.frame_height, a.ref_height)
     {
         return SIZE;
     }
@@ -204,13 +199,7 @@ pub fn block_inter_predict(a: &BlockArgs, out_len: usize, room_len: usize) -> u3
 pub fn predict_inter(a: &PredictArgs, dst_len: usize, room_len: usize) -> u32 {
     let refs = &a.refs[..lists(a.average)];
     let vectors = &a.vectors[..lists(a.average)];
-    if wrong_size(a.grid.mi_size)
-        || wrong_sub_block(a.block)
-        || wrong_plane(a.plane)
-        || wrong_side(a.w)
-        || wrong_side(a.h)
-        || no_partner(a.plane, a.grid.mi_size, a.block, a.sub_x, a.sub_y)
-    {
+    if wrong_block(a) {
         return BLOCK;
     }
     if wrong_grid(&a.grid) || wrong_column(&a.grid) {
@@ -219,15 +208,7 @@ pub fn predict_inter(a: &PredictArgs, dst_len: usize, room_len: usize) -> u32 {
     if wrong_filter(a.filter) || wrong_depth(a.depth) {
         return FILTER;
     }
-    if wrong_extent(a.frame_width) || wrong_extent(a.frame_height) {
-        return SIZE;
-    }
-    if refs.iter().any(|r| {
-        wrong_extent(r.frame_width)
-            || wrong_extent(r.frame_height)
-            || !allowed(a.frame_width, r.frame_width)
-            || !allowed(a.frame_height, r.frame_height)
-    }) {
+    if refs.iter().any(|r| wrong_frames(a, r)) {
         return SIZE;
     }
     if wrong_place(a.x) || wrong_place(a.y) {
@@ -268,32 +249,20 @@ pub fn block_reach(a: &BlockReachArgs) -> u32 {
 /// The same of a whole prediction, in the plane of one list's reference: `predict_inter`'s rows but
 /// those of filter, depth and buffers, and nothing of the other list. "Each call tests only what it
 /// is given".
-pub fn inter_reach(a: &InterReachArgs) -> u32 {
-    if wrong_size(a.grid.mi_size)
-        || wrong_sub_block(a.block)
-        || wrong_plane(a.plane)
-        || wrong_side(a.w)
-        || wrong_side(a.h)
-        || no_partner(a.plane, a.grid.mi_size, a.block, a.sub_x, a.sub_y)
-    {
+pub fn inter_reach(a: &PredictArgs, list: usize) -> u32 {
+    if wrong_block(a) {
         return BLOCK;
     }
     if wrong_grid(&a.grid) || wrong_column(&a.grid) {
         return GRID;
     }
-    if wrong_extent(a.frame_width)
-        || wrong_extent(a.frame_height)
-        || wrong_extent(a.ref_width)
-        || wrong_extent(a.ref_height)
-        || !allowed(a.frame_width, a.ref_width)
-        || !allowed(a.frame_height, a.ref_height)
-    {
+    if wrong_frames(a, &a.refs[list]) {
         return SIZE;
     }
     if wrong_place(a.x) || wrong_place(a.y) {
         return START;
     }
-    if a.vectors[usize::from(a.second)].iter().any(wrong_vector) {
+    if a.vectors[list].iter().any(wrong_vector) {
         return VECTOR;
     }
     ACCEPTED
@@ -314,6 +283,16 @@ pub fn plane_extent(frame: i32, plane: usize, halved: bool) -> i32 {
 }
 
 // Row 1, BLOCK.
+
+/// All of it, for a whole prediction.
+fn wrong_block(a: &PredictArgs) -> bool {
+    wrong_size(a.grid.mi_size)
+        || wrong_sub_block(a.block)
+        || wrong_plane(a.plane)
+        || wrong_side(a.w)
+        || wrong_side(a.h)
+        || no_partner(a.plane, a.grid.mi_size, a.block, a.sub_x, a.sub_y)
+}
 
 /// "block size above 12"
 fn wrong_size(mi_size: u8) -> bool {
@@ -390,6 +369,16 @@ fn wrong_extent(n: i32) -> bool {
 /// reference." Both are at most 65536 where this is asked.
 fn allowed(frame: i32, reference: i32) -> bool {
     2 * frame >= reference && frame <= 16 * reference
+}
+
+/// One dimension of a frame and its reference.
+fn wrong_reference(frame: i32, reference: i32) -> bool {
+    wrong_extent(frame) || wrong_extent(reference) || !allowed(frame, reference)
+}
+
+/// Both, of a whole prediction.
+fn wrong_frames(a: &PredictArgs, r: &FrameReference) -> bool {
+    wrong_reference(a.frame_width, r.frame_width) || wrong_reference(a.frame_height, r.frame_height)
 }
 
 // Row 6, START.
@@ -799,33 +788,29 @@ mod tests {
     /// Of list 0, the other list wrong to the end; then of list 1.
     #[test]
     fn lowest_of_inter_reach() {
-        let wrong = InterReachArgs {
-            x: -1,
-            y: 65536,
-            vectors: [wrong_vectors()[0]; 2],
-            filter: usize::MAX,
-            depth: 9,
-            ..InterReachArgs::default()
-        };
-        let mends: Mends<InterReachArgs> = vec![
-            (1, |a| (a.w, a.h) = (1, 64)),
-            (2, |a| (a.grid.mi_rows, a.grid.mi_cols) = (8192, 8192)),
-            (5, |a| (a.frame_width, a.ref_width) = (1, 3)),
-            (5, |a| (a.frame_height, a.ref_height) = (17, 1)),
-            (5, |a| a.ref_width = 2),
-            (5, |a| a.frame_height = 16),
-            (6, |a| a.x = 0),
-            (6, |a| a.y = 65535),
-            (9, |a| a.vectors[0][0][1] = 0),
-        ];
-        mend(wrong, mends.clone(), inter_reach);
-        let mut of_second = mends;
-        of_second.pop();
-        of_second.push((9, |a| a.vectors[1][0][1] = 0));
-        let wrong = InterReachArgs {
-            second: true,
-            ..wrong
-        };
-        mend(wrong, of_second, inter_reach);
+        for list in 0..2 {
+            let wrong = PredictArgs {
+                x: -1,
+                y: 65536,
+                vectors: [wrong_vectors()[0]; 2],
+                filter: usize::MAX,
+                depth: 9,
+                ..PredictArgs::default()
+            };
+            let mends: Mends<(PredictArgs, usize)> = vec![
+                (1, |(a, _)| (a.w, a.h) = (1, 64)),
+                (2, |(a, _)| (a.grid.mi_rows, a.grid.mi_cols) = (8192, 8192)),
+                (5, |(a, i)| (a.frame_width, a.refs[*i].frame_width) = (1, 3)),
+                (5, |(a, i)| {
+                    (a.frame_height, a.refs[*i].frame_height) = (17, 1)
+                }),
+                (5, |(a, i)| a.refs[*i].frame_width = 2),
+                (5, |(a, _)| a.frame_height = 16),
+                (6, |(a, _)| a.x = 0),
+                (6, |(a, _)| a.y = 65535),
+                (9, |(a, i)| a.vectors[*i][0][1] = 0),
+            ];
+            mend((wrong, list), mends, |(a, list)| inter_reach(a, *list));
+        }
     }
 }

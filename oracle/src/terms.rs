@@ -184,32 +184,6 @@ pub struct BlockReachArgs {
     pub at: Scaled,
 }
 
-/// How far a whole prediction can reach: its arguments without the buffers, which list is meant,
-/// and the size of that list's reference frame.
-#[derive(Clone, Copy, Debug, Default, PartialEq, Eq)]
-pub struct InterReachArgs {
-    pub plane: usize,
-    pub x: i32,
-    pub y: i32,
-    pub w: usize,
-    pub h: usize,
-    pub block: usize,
-    /// Not looked at, nor are the next two.
-    pub filter: usize,
-    pub depth: u32,
-    pub average: bool,
-    pub grid: Grid,
-    pub frame_width: i32,
-    pub frame_height: i32,
-    pub sub_x: bool,
-    pub sub_y: bool,
-    pub vectors: BlockVectors,
-    /// Whether list 1 is meant.
-    pub second: bool,
-    pub ref_width: i32,
-    pub ref_height: i32,
-}
-
 /// The first and the last column and row that a block can reach in a plane.
 #[derive(Clone, Copy, Debug, Default, PartialEq, Eq)]
 pub struct Reach {

@@ -231,7 +231,7 @@ fn prediction_differs(random: &mut Random, shorten: impl Fn(&mut Reach)) -> bool
     let a = random_prediction(random);
     let mut b = a.clone();
     for (list, r) in b.refs.iter_mut().enumerate() {
-        let mut keep = plain::inter_reach(&plain::one_list(&a, list));
+        let mut keep = plain::inter_reach(&a, list);
         shorten(&mut keep);
         r.bands = replaced(random, &r.bands, keep);
     }

@@ -7,40 +7,69 @@ use super::edges::*;
 use super::fixed::Fixed;
 use super::planes::WRONG_EXTENTS;
 use super::predict::{chance_block, chance_grid, chance_vectors};
+use super::predict::{read_kind, read_place, read_sizes, read_vectors};
+use super::predict::{write_kind, write_place, write_sizes, write_vectors};
 use super::prediction::{SIDES, chance_side};
 use super::rng::Rng;
 use super::scale::{ratio, ratios};
-use crate::terms::{InterReachArgs, Vector};
+use crate::terms::{PredictArgs, Vector};
 use crate::{plain, table};
+
+/// A whole prediction, of whose references only the size is given, the same for both lists, and
+/// of whose destination nothing is; and whether list 1 is meant.
+#[derive(Clone, Debug, Default)]
+pub struct InterReachArgs {
+    pub of: PredictArgs,
+    pub second: bool,
+}
+
+impl InterReachArgs {
+    pub fn list(&self) -> usize {
+        usize::from(self.second)
+    }
+
+    /// Gives the reference's frame this width, and the next one this height.
+    fn ref_width(&mut self, n: i32) {
+        self.of.refs.iter_mut().for_each(|r| r.frame_width = n);
+    }
+
+    fn ref_height(&mut self, n: i32) {
+        self.of.refs.iter_mut().for_each(|r| r.frame_height = n);
+    }
+}
 
 impl Fixed for InterReachArgs {
     const LENGTH: usize = 192;
 
     /// Of list 0 in luma, of another size than the frame; no end is held.
     fn base() -> Self {
-        InterReachArgs {
-            x: 20,
-            y: 16,
-            w: 6,
-            h: 4,
-            grid: BASE_GRID,
-            frame_width: 64,
-            frame_height: 48,
-            vectors: [
-                [[10, -20], [31, 40], [-52, 60], [73, -80]],
-                [[-11, 21], [-32, 41], [53, -61], [-74, -81]],
-            ],
-            ref_width: 70,
-            ref_height: 60,
-            depth: 8,
-            ..InterReachArgs::default()
-        }
+        let mut a = InterReachArgs {
+            of: PredictArgs {
+                x: 20,
+                y: 16,
+                w: 6,
+                h: 4,
+                grid: BASE_GRID,
+                frame_width: 64,
+                frame_height: 48,
+                vectors: [
+                    [[10, -20], [31, 40], [-52, 60], [73, -80]],
+                    [[-11, 21], [-32, 41], [53, -61], [-74, -81]],
+                ],
+                depth: 8,
+                ..PredictArgs::default()
+            },
+            second: false,
+        };
+        a.ref_width(70);
+        a.ref_height(60);
+        a
     }
 
     fn edges() -> Vec<Edge<Self>> {
         let mut edges = block_edges();
-        edges.extend(grid_edges(|a: &mut InterReachArgs| &mut a.grid));
-        edges.extend(column_edges(|a: &mut InterReachArgs| &mut a.grid));
+        edges.extend(grid_edges(|a: &mut InterReachArgs| &mut a.of.grid));
+        edges.extend(column_edges(|a: &mut InterReachArgs| &mut a.of.grid));
         edges.extend(size_edges());
         edges.extend(place_edges());
         edges.extend(vector_edges());
@@ -60,7 +89,7 @@ impl Fixed for InterReachArgs {
             chance_place(rng, frame_width),
             chance_place(rng, frame_height),
         );
-        let mut a = InterReachArgs {
+        let of = PredictArgs {
             plane: rng.size(0, 2),
             x,
             y,
@@ -76,10 +105,14 @@ impl Fixed for InterReachArgs {
             sub_x,
             sub_y,
             vectors: chance_vectors(rng),
-            second: rng.coin(),
-            ref_width,
-            ref_height,
+            ..PredictArgs::default()
         };
+        let mut a = InterReachArgs {
+            of,
+            second: rng.coin(),
+        };
+        a.ref_width(ref_width);
+        a.ref_height(ref_height);
         // Seldom refused, and then for up to three reasons.
         if rng.once_in(16) {
             (0..rng.size(1, 3)).for_each(|_| spoil(&mut a, rng));
@@ -89,59 +122,34 @@ impl Fixed for InterReachArgs {
 
     fn read(r: &mut Reader) -> Read<Self> {
         let mut a = InterReachArgs::default();
-        for c in a.vectors.iter_mut().flatten().flatten() {
-            *c = r.i32()?;
-        }
-        for n in [
-            &mut a.plane,
-            &mut a.w,
-            &mut a.h,
-            &mut a.block,
-            &mut a.filter,
-        ] {
-            *n = r.size()?;
-        }
-        a.x = r.i32()?;
-        a.y = r.i32()?;
-        a.grid = r.position()?;
-        a.frame_width = r.i32()?;
-        a.frame_height = r.i32()?;
-        a.ref_width = r.i32()?;
-        a.ref_height = r.i32()?;
-        a.depth = r.u32()?;
-        a.grid.mi_size = r.u8()?;
-        for b in [&mut a.sub_x, &mut a.sub_y, &mut a.average, &mut a.second] {
-            *b = r.bool()?;
-        }
+        read_vectors(&mut a.of, r)?;
+        read_sizes(&mut a.of, r)?;
+        read_place(&mut a.of, r)?;
+        a.ref_width(r.i32()?);
+        a.ref_height(r.i32()?);
+        read_kind(&mut a.of, r)?;
+        a.second = r.bool()?;
         Ok(a)
     }
 
     fn write(&self, w: &mut Writer) {
-        self.vectors.iter().flatten().for_each(|v| w.vector(v));
-        for n in [self.plane, self.w, self.h, self.block, self.filter] {
-            w.size(n);
-        }
-        w.i32(self.x);
-        w.i32(self.y);
-        w.position(&self.grid);
-        w.i32(self.frame_width);
-        w.i32(self.frame_height);
-        w.i32(self.ref_width);
-        w.i32(self.ref_height);
-        w.u32(self.depth);
-        w.u8(self.grid.mi_size);
-        for b in [self.sub_x, self.sub_y, self.average, self.second] {
-            w.bool(b);
-        }
+        write_vectors(&self.of, w);
+        write_sizes(&self.of, w);
+        write_place(&self.of, w);
+        let reference = &self.of.refs[self.list()];
+        w.i32(reference.frame_width);
+        w.i32(reference.frame_height);
+        write_kind(&self.of, w);
+        w.bool(self.second);
         w.zeros(3);
     }
 
     fn number(&self) -> u32 {
-        table::inter_reach(self)
+        table::inter_reach(&self.of, self.list())
     }
 
     fn write_values(&self, w: &mut Writer) {
-        write_reach(&plain::inter_reach(self), w);
+        write_reach(&plain::inter_reach(&self.of, self.list()), w);
     }
 }
 
@@ -149,11 +157,11 @@ type Args = InterReachArgs;
 
 /// Row 1 of the table but for the block size, which comes with the grid, and the partner.
 fn block_edges() -> Vec<Edge<Args>> {
-    let mut edges = each(sizes_to(1, 2), |a: &mut Args, n| a.plane = n);
-    edges.extend(each(sizes_to(1, 3), |a: &mut Args, n| a.block = n));
+    let mut edges = each(sizes_to(1, 2), |a: &mut Args, n| a.of.plane = n);
+    edges.extend(each(sizes_to(1, 3), |a: &mut Args, n| a.of.block = n));
     for (number, side) in SIDES {
-        edges.push(edge(number, move |a: &mut Args| a.w = side));
-        edges.push(edge(number, move |a: &mut Args| a.h = side));
+        edges.push(edge(number, move |a: &mut Args| a.of.w = side));
+        edges.push(edge(number, move |a: &mut Args| a.of.h = side));
     }
     edges
 }
@@ -162,17 +170,19 @@ fn block_edges() -> Vec<Edge<Args>> {
 fn size_edges() -> Vec<Edge<Args>> {
     let mut edges = Vec::new();
     for n in WRONG_EXTENTS {
-        edges.push(edge(5, move |a: &mut Args| a.frame_width = n));
-        edges.push(edge(5, move |a: &mut Args| a.frame_height = n));
-        edges.push(edge(5, move |a: &mut Args| a.ref_width = n));
-        edges.push(edge(5, move |a: &mut Args| a.ref_height = n));
+        edges.push(edge(5, move |a: &mut Args| a.of.frame_width = n));
+        edges.push(edge(5, move |a: &mut Args| a.of.frame_height = n));
+        edges.push(edge(5, move |a: &mut Args| a.ref_width(n)));
+        edges.push(edge(5, move |a: &mut Args| a.ref_height(n)));
     }
     for (number, frame, reference) in ratios() {
         edges.push(edge(number, move |a: &mut Args| {
-            (a.frame_width, a.ref_width) = (frame, reference);
+            a.of.frame_width = frame;
+            a.ref_width(reference);
         }));
         edges.push(edge(number, move |a: &mut Args| {
-            (a.frame_height, a.ref_height) = (frame, reference);
+            a.of.frame_height = frame;
+            a.ref_height(reference);
             a.second = true;
         }));
     }
@@ -183,8 +193,8 @@ fn size_edges() -> Vec<Edge<Args>> {
 fn place_edges() -> Vec<Edge<Args>> {
     let mut edges = Vec::new();
     for (number, n) in values_within(6, 0, 65_535) {
-        edges.push(edge(number, move |a: &mut Args| a.x = n));
-        edges.push(edge(number, move |a: &mut Args| a.y = n));
+        edges.push(edge(number, move |a: &mut Args| a.of.x = n));
+        edges.push(edge(number, move |a: &mut Args| a.of.y = n));
     }
     edges
 }
@@ -197,7 +207,7 @@ fn vector_edges() -> Vec<Edge<Args>> {
             for (number, n) in values_within(9, -32_767, 32_767) {
                 let number = if second == (i >= 8) { number } else { 0 };
                 edges.push(edge(number, move |a: &mut Args| {
-                    (a.vectors[i / 8][i / 2 % 4][i % 2], a.second) = (n, second);
+                    (a.of.vectors[i / 8][i / 2 % 4][i % 2], a.second) = (n, second);
                 }));
             }
         }
@@ -215,8 +225,9 @@ fn partner_edges() -> Vec<Edge<Args>> {
             let below = plane > 0 && mi_size < 3;
             let refused = below && missing.contains(&(sub_x, sub_y, block));
             edges.push(edge(u32::from(refused), move |a: &mut Args| {
-                (a.plane, a.block, a.second, a.grid.mi_size) = (plane, block, second, mi_size);
-                (a.sub_x, a.sub_y) = (sub_x, sub_y);
+                (a.of.plane, a.of.block, a.second, a.of.grid.mi_size) =
+                    (plane, block, second, mi_size);
+                (a.of.sub_x, a.of.sub_y) = (sub_x, sub_y);
             }));
         }
     }
@@ -226,12 +237,12 @@ fn partner_edges() -> Vec<Edge<Args>> {
 /// Filter, depth and averaging are not looked at.
 fn unread_edges() -> Vec<Edge<Args>> {
     let filters = [3, 4, usize::MAX].map(|n| (0, n));
-    let mut edges = each(filters, |a: &mut Args, n| a.filter = n);
+    let mut edges = each(filters, |a: &mut Args, n| a.of.filter = n);
     let depths = [0, 9, 13, u32::MAX].map(|n| (0, n));
-    edges.extend(each(depths, |a: &mut Args, n| a.depth = n));
+    edges.extend(each(depths, |a: &mut Args, n| a.of.depth = n));
     for second in [false, true] {
         edges.push(edge(0, move |a: &mut Args| {
-            (a.average, a.second) = (true, second);
+            (a.of.average, a.second) = (true, second);
         }));
     }
     edges
@@ -244,10 +255,11 @@ fn rounded_edges() -> Vec<Edge<Args>> {
         for (width, height) in [(23, 19), (24, 20), (1, 2), (2, 1), (3, 3)] {
             for second in [false, true] {
                 edges.push(edge(0, move |a: &mut Args| {
-                    (a.plane, a.sub_x, a.sub_y, a.second) = (1, sub_x, sub_y, second);
-                    (a.frame_width, a.frame_height) = (width, height);
-                    (a.ref_width, a.ref_height) = (width, height);
-                    (a.x, a.y) = (width / 2, height / 2);
+                    (a.of.plane, a.of.sub_x, a.of.sub_y, a.second) = (1, sub_x, sub_y, second);
+                    (a.of.frame_width, a.of.frame_height) = (width, height);
+                    a.ref_width(width);
+                    a.ref_height(height);
+                    (a.of.x, a.of.y) = (width / 2, height / 2);
                 }));
             }
         }
@@ -264,9 +276,9 @@ fn held_edges() -> Vec<Edge<Args>> {
             for (plane, second) in [(0, false), (1, true)] {
                 edges.push(edge(0, move |a: &mut Args| {
                     let to: Vector = [row * reach, col * reach];
-                    a.vectors[usize::from(second)] = [to; 4];
-                    (a.plane, a.second) = (plane, second);
-                    (a.sub_x, a.sub_y) = (true, true);
+                    a.of.vectors[usize::from(second)] = [to; 4];
+                    (a.of.plane, a.second) = (plane, second);
+                    (a.of.sub_x, a.of.sub_y) = (true, true);
                 }));
             }
         }
@@ -286,12 +298,13 @@ fn largest_edges() -> Vec<Edge<Args>> {
         for grid in large_grids() {
             for plane in 0..2 {
                 edges.push(edge(0, move |a: &mut Args| {
-                    (a.frame_width, a.ref_width) = (frame, reference);
-                    (a.frame_height, a.ref_height) = (frame, reference);
-                    (a.w, a.h) = (64, 64);
-                    (a.x, a.y) = (grid.mi_col * frame / 8192, grid.mi_row * frame / 8192);
-                    (a.plane, a.sub_x, a.second) = (plane, true, plane == 1);
-                    a.grid = grid;
+                    (a.of.frame_width, a.of.frame_height) = (frame, frame);
+                    a.ref_width(reference);
+                    a.ref_height(reference);
+                    (a.of.w, a.of.h) = (64, 64);
+                    (a.of.x, a.of.y) = (grid.mi_col * frame / 8192, grid.mi_row * frame / 8192);
+                    (a.of.plane, a.of.sub_x, a.second) = (plane, true, plane == 1);
+                    a.of.grid = grid;
                 }));
             }
         }
@@ -311,16 +324,16 @@ fn chance_place(rng: &mut Rng, extent: i32) -> i32 {
 fn spoil(a: &mut InterReachArgs, rng: &mut Rng) {
     let list = usize::from(rng.coin());
     match rng.below(10) {
-        0 => a.grid.mi_size = 13,
-        1 => a.block = rng.pick(&[3, 4]),
-        2 => a.plane = 3,
-        3 => a.w = rng.pick(&[0, 65]),
-        4 => a.grid.mi_row = a.grid.mi_rows,
-        5 => a.grid.mi_col = -1,
-        6 => a.ref_width = 2 * a.frame_width + 1,
-        7 => a.ref_height = 0,
-        8 => a.y = rng.pick(&[-1, 65_536]),
+        0 => a.of.grid.mi_size = 13,
+        1 => a.of.block = rng.pick(&[3, 4]),
+        2 => a.of.plane = 3,
+        3 => a.of.w = rng.pick(&[0, 65]),
+        4 => a.of.grid.mi_row = a.of.grid.mi_rows,
+        5 => a.of.grid.mi_col = -1,
+        6 => a.ref_width(2 * a.of.frame_width + 1),
+        7 => a.ref_height(0),
+        8 => a.of.y = rng.pick(&[-1, 65_536]),
         // Of either list.
-        _ => a.vectors[list][rng.size(0, 3)][rng.size(0, 1)] = rng.pick(&[-32_768, 32_768]),
+        _ => a.of.vectors[list][rng.size(0, 3)][rng.size(0, 1)] = rng.pick(&[-32_768, 32_768]),
     }
 }

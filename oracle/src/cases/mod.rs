@@ -26,10 +26,11 @@ mod slips;
 #[cfg(test)]
 mod tests;
 
-use crate::terms::{BestArgs, BlockArgs, BlockReachArgs, ClampArgs, InterReachArgs};
+use crate::terms::{BestArgs, BlockArgs, BlockReachArgs, ClampArgs};
 use crate::terms::{PredictArgs, ScaleArgs, SelectArgs};
 use bytes::{Read, Reader, Writer};
 use fixed::Fixed;
+use inter_reach::InterReachArgs;
 use rng::Rng;
 use row::RowRead;
 use search::{Append, Find};

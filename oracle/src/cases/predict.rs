@@ -13,6 +13,72 @@ use crate::{door, plain, table};
 
 type Query = prediction::Query<PredictArgs>;
 
+// The parts of a record that a prediction and its reach have.
+
+pub fn read_vectors(a: &mut PredictArgs, r: &mut Reader) -> Read<()> {
+    for c in a.vectors.iter_mut().flatten().flatten() {
+        *c = r.i32()?;
+    }
+    Ok(())
+}
+
+pub fn write_vectors(a: &PredictArgs, w: &mut Writer) {
+    a.vectors.iter().flatten().for_each(|v| w.vector(v));
+}
+
+pub fn read_sizes(a: &mut PredictArgs, r: &mut Reader) -> Read<()> {
+    for n in [
+        &mut a.plane,
+        &mut a.w,
+        &mut a.h,
+        &mut a.block,
+        &mut a.filter,
+    ] {
+        *n = r.size()?;
+    }
+    Ok(())
+}
+
+pub fn write_sizes(a: &PredictArgs, w: &mut Writer) {
+    for n in [a.plane, a.w, a.h, a.block, a.filter] {
+        w.size(n);
+    }
+}
+
+pub fn read_place(a: &mut PredictArgs, r: &mut Reader) -> Read<()> {
+    a.x = r.i32()?;
+    a.y = r.i32()?;
+    a.grid = r.position()?;
+    a.frame_width = r.i32()?;
+    a.frame_height = r.i32()?;
+    Ok(())
+}
+
+pub fn write_place(a: &PredictArgs, w: &mut Writer) {
+    w.i32(a.x);
+    w.i32(a.y);
+    w.position(&a.grid);
+    w.i32(a.frame_width);
+    w.i32(a.frame_height);
+}
+
+pub fn read_kind(a: &mut PredictArgs, r: &mut Reader) -> Read<()> {
+    a.depth = r.u32()?;
+    a.grid.mi_size = r.u8()?;
+    for b in [&mut a.sub_x, &mut a.sub_y, &mut a.average] {
+        *b = r.bool()?;
+    }
+    Ok(())
+}
+
+pub fn write_kind(a: &PredictArgs, w: &mut Writer) {
+    w.u32(a.depth);
+    w.u8(a.grid.mi_size);
+    for b in [a.sub_x, a.sub_y, a.average] {
+        w.bool(b);
+    }
+}
+
 impl Prediction for PredictArgs {
     const ANSWER_AT: usize = 236;
     const STREAM: u64 = 400;
@@ -45,67 +111,32 @@ impl Prediction for PredictArgs {
 
     fn read_args(q: &mut Query, r: &mut Reader) -> Read<()> {
         let a = &mut q.args;
-        for c in a.vectors.iter_mut().flatten().flatten() {
-            *c = r.i32()?;
-        }
+        read_vectors(a, r)?;
         for list in 0..2 {
             a.refs[list].frame_width = r.i32()?;
             a.refs[list].frame_height = r.i32()?;
             q.lent[list] = Lent::read(r)?;
         }
-        for n in [
-            &mut a.plane,
-            &mut a.w,
-            &mut a.h,
-            &mut a.block,
-            &mut a.filter,
-        ] {
-            *n = r.size()?;
-        }
+        read_sizes(a, r)?;
         a.dst_width = r.size()?;
         a.dst_height = r.size()?;
-        a.x = r.i32()?;
-        a.y = r.i32()?;
-        a.grid = r.position()?;
-        a.frame_width = r.i32()?;
-        a.frame_height = r.i32()?;
-        a.depth = r.u32()?;
-        a.grid.mi_size = r.u8()?;
-        a.sub_x = r.bool()?;
-        a.sub_y = r.bool()?;
-        a.average = r.bool()?;
-        Ok(())
+        read_place(a, r)?;
+        read_kind(a, r)
     }
 
     fn write_args(q: &Query, w: &mut Writer) {
         let a = &q.args;
-        a.vectors.iter().flatten().for_each(|v| w.vector(v));
+        write_vectors(a, w);
         for list in 0..2 {
             w.i32(a.refs[list].frame_width);
             w.i32(a.refs[list].frame_height);
             q.lent[list].write(w);
         }
-        for n in [
-            a.plane,
-            a.w,
-            a.h,
-            a.block,
-            a.filter,
-            a.dst_width,
-            a.dst_height,
-        ] {
-            w.size(n);
-        }
-        w.i32(a.x);
-        w.i32(a.y);
-        w.position(&a.grid);
-        w.i32(a.frame_width);
-        w.i32(a.frame_height);
-        w.u32(a.depth);
-        w.u8(a.grid.mi_size);
-        w.bool(a.sub_x);
-        w.bool(a.sub_y);
-        w.bool(a.average);
+        write_sizes(a, w);
+        w.size(a.dst_width);
+        w.size(a.dst_height);
+        write_place(a, w);
+        write_kind(a, w);
     }
 
     fn base() -> Query {

@@ -3,6 +3,7 @@
 //! may. And do the rectangles lie everywhere that they can?
 
 use super::fixed::{Fixed, boundaries};
+use super::inter_reach::InterReachArgs;
 use super::rng::Rng;
 use crate::terms::*;
 use crate::{plain, table};
@@ -133,16 +134,14 @@ enum InterSlip {
 }
 
 fn inter_slipped(a: &InterReachArgs, slip: InterSlip) -> Reach {
-    let a = &match slip {
-        InterSlip::ListZeroForListOne => InterReachArgs {
-            second: false,
-            ..*a
-        },
-        _ => *a,
+    let list = match slip {
+        InterSlip::ListZeroForListOne => 0,
+        _ => a.list(),
     };
+    let (a, r) = (&a.of, &a.of.refs[list]);
     let (width, height) = match slip {
         InterSlip::FrameForReference => (a.frame_width, a.frame_height),
-        _ => (a.ref_width, a.ref_height),
+        _ => (r.frame_width, r.frame_height),
     };
     let extent = |frame: i32, sub: bool| match slip {
         InterSlip::LumaForChroma => frame,
@@ -158,14 +157,18 @@ fn inter_slipped(a: &InterReachArgs, slip: InterSlip) -> Reach {
         h,
         width: extent(width, a.sub_x),
         height: extent(height, a.sub_y),
-        at: plain::start_and_step(a),
+        at: plain::start_and_step(a, list),
     })
+}
+
+fn reach_of(a: &InterReachArgs) -> Reach {
+    plain::inter_reach(&a.of, a.list())
 }
 
 #[test]
 fn slips_of_the_predictions_reach_are_seen() {
     use InterSlip::*;
-    let shown = |slip| count(|a: &InterReachArgs| inter_slipped(a, slip) != plain::inter_reach(a));
+    let shown = |slip| count(|a: &InterReachArgs| inter_slipped(a, slip) != reach_of(a));
     assert_eq!(shown(None), 0);
     for slip in [ListZeroForListOne, RoundedDown, LumaForChroma] {
         assert!(shown(slip) >= 10, "{slip:?}");
@@ -182,11 +185,11 @@ fn slips_of_the_predictions_refusals_are_seen() {
     for second in [false, true] {
         let other = usize::from(!second);
         let shown =
-            count(|a: &InterReachArgs| a.second == second && a.vectors[other].iter().any(wrong));
+            count(|a: &InterReachArgs| a.second == second && a.of.vectors[other].iter().any(wrong));
         assert!(shown >= 10, "list {other}: {shown}");
     }
-    assert!(count(|a: &InterReachArgs| a.filter > 3) >= 10);
-    assert!(count(|a: &InterReachArgs| ![8, 10, 12].contains(&a.depth)) >= 10);
+    assert!(count(|a: &InterReachArgs| a.of.filter > 3) >= 10);
+    assert!(count(|a: &InterReachArgs| ![8, 10, 12].contains(&a.of.depth)) >= 10);
 }
 
 // Where the rectangles lie.
@@ -234,8 +237,9 @@ fn lie_everywhere<A: Fixed>(reach: impl Fn(&A) -> (Reach, i32, i32)) {
 fn rectangles_lie_everywhere() {
     lie_everywhere(|a: &BlockReachArgs| (plain::block_reach(a), a.width, a.height));
     lie_everywhere(|a: &InterReachArgs| {
-        let width = table::plane_extent(a.ref_width, a.plane, a.sub_x);
-        let height = table::plane_extent(a.ref_height, a.plane, a.sub_y);
-        (plain::inter_reach(a), width, height)
+        let (of, r) = (&a.of, &a.of.refs[a.list()]);
+        let width = table::plane_extent(r.frame_width, of.plane, of.sub_x);
+        let height = table::plane_extent(r.frame_height, of.plane, of.sub_y);
+        (reach_of(a), width, height)
     });
 }
