@@ -1,4 +1,6 @@
 // What every crate of Knobspindle stands on: the answer numbers, the two units of a vector, total helpers.
+#![tactic(auto)]
+
 mod answer;
 mod number;
 mod units;

@@ -5,17 +5,17 @@ ghost use Rattle.base.specs.Vector as Vector;
 
 // Eighths of a luma sample: what candidate vectors count.
 #[repr(C)]
-#[derive(Drop)]
+#[derive(Clone, Copy)]
 pub struct Eighth(pub i32);
 
 // Sixteenths of a plane sample: what clamped vectors, starts and steps count.
 #[repr(C)]
-#[derive(Drop)]
+#[derive(Clone, Copy)]
 pub struct Sixteenth(pub i32);
 
 // A candidate, or a block's vector.
 #[repr(C)]
-#[derive(Drop)]
+#[derive(Clone, Copy)]
 pub struct Mv {
     pub row: Eighth,
     pub col: Eighth,
@@ -23,7 +23,7 @@ pub struct Mv {
 
 // A clamped vector.
 #[repr(C)]
-#[derive(Drop)]
+#[derive(Clone, Copy)]
 pub struct PlaneMv {
     pub row: Sixteenth,
     pub col: Sixteenth,

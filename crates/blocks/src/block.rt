@@ -16,7 +16,7 @@ use planes::PlaneGeom;
 
 // The block: its size in samples, which filter, the bit depth, and whether two references are averaged.
 #[repr(C)]
-#[derive(Drop)]
+#[derive(Clone, Copy)]
 pub struct BlockShape {
     pub w: usize,
     pub h: usize,
@@ -27,7 +27,7 @@ pub struct BlockShape {
 
 // Where a block starts in a reference's plane and how it steps from sample to sample.
 #[repr(C)]
-#[derive(Drop)]
+#[derive(Clone, Copy)]
 pub struct Stepping {
     pub start_x: Sixteenth,
     pub start_y: Sixteenth,

@@ -1,4 +1,6 @@
 // The candidate search over lent tables, before clamping: what each place offers, and which two are held.
+#![tactic(auto)]
+
 mod find;
 mod held;
 mod scan;

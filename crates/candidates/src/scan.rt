@@ -12,7 +12,7 @@ use base::{Eighth, Mv};
 use records::{MvRefGeometry, Spot};
 
 // What a scan asks of a list: the target frame in step 2, another frame in step 3.
-#[derive(Drop)]
+#[derive(Clone, Copy)]
 pub struct Ask {
     pub target: i32,
     pub sign_bias: [bool; 4],

@@ -1,4 +1,6 @@
 // The two clamps on one axis, below `vectors` and `lists`: of a plane's vector, of a candidate; block sizes. Its functions may have `requires`.
+#![tactic(auto)]
+
 mod border;
 mod clamp;
 mod partition;

@@ -10,7 +10,7 @@ use vectors::{MvPair, MvRefGeometry};
 
 // The vectors of a block's four sub-blocks in one list.
 #[repr(C)]
-#[derive(Drop)]
+#[derive(Clone, Copy)]
 pub struct SubMvs {
     pub mvs: [Mv; 4],
 }

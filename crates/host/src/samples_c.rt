@@ -9,7 +9,7 @@ use samples::{BlockShape, PlaneGeom, Reach, Stepping};
 
 // Where a row stands: in the upper band (0) or the lower (1), from which sample on, and how many samples.
 #[repr(C)]
-#[derive(Drop)]
+#[derive(Clone, Copy)]
 pub struct RowPlace {
     pub answer: u32,
     pub band: u32,

@@ -12,7 +12,7 @@ use vectors::{BlockGrid, ClampedMv, MvRefGeometry, MvRefs, ScaleGeom, ScaledMv, 
 
 // A block's vectors, sub-blocks 0..3 of each list. C takes no array by value, and a struct that crosses holds no nested one.
 #[repr(C)]
-#[derive(Drop)]
+#[derive(Clone, Copy)]
 pub struct BlockMvs {
     pub list0: [Mv; 4],
     pub list1: [Mv; 4],
@@ -89,7 +89,7 @@ pub extern "C" fn knobspindle_scale_mv(
 
 // Of reference frames 0..3.
 #[repr(C)]
-#[derive(Drop)]
+#[derive(Clone, Copy)]
 pub struct SignBias {
     pub frame: [bool; 4],
 }

@@ -16,7 +16,7 @@ use vectors::{BlockGrid, ScaleGeom, clamp_mv, scale_mv, select_mv};
 
 // The block: its plane, its first sample there, its size in samples, the sub-block, the filter, the bit depth, and whether two lists are averaged.
 #[repr(C)]
-#[derive(Drop)]
+#[derive(Clone, Copy)]
 pub struct InterPredArgs {
     pub plane: usize,
     pub x: i32,
@@ -31,7 +31,7 @@ pub struct InterPredArgs {
 
 // The frame's size in luma samples, and the one subsampling pair of frame and references.
 #[repr(C)]
-#[derive(Drop)]
+#[derive(Clone, Copy)]
 pub struct FrameGeom {
     pub width: i32,
     pub height: i32,
@@ -41,7 +41,7 @@ pub struct FrameGeom {
 
 // A reference: its frame's size in luma samples; the distance between rows of the plane that is lent, and how many of them the upper band has.
 #[repr(C)]
-#[derive(Drop)]
+#[derive(Clone, Copy)]
 pub struct RefGeom {
     pub frame_width: i32,
     pub frame_height: i32,
@@ -51,14 +51,14 @@ pub struct RefGeom {
 
 // The destination plane's size in samples; its stride is its width.
 #[repr(C)]
-#[derive(Drop)]
+#[derive(Clone, Copy)]
 pub struct DestGeom {
     pub width: usize,
     pub height: usize,
 }
 
 // What the three calls on vectors gave for one list: their answers, and where the block starts.
-#[derive(Drop)]
+#[derive(Clone, Copy)]
 pub struct Led {
     pub select: u32,
     pub clamp: u32,
@@ -67,7 +67,7 @@ pub struct Led {
 }
 
 // What a call is told of both lists.
-#[derive(Drop)]
+#[derive(Clone, Copy)]
 pub struct Judged {
     pub number: u32,
     pub from: Stepping,

@@ -1,4 +1,6 @@
 // Below `prediction`: whether a whole prediction is accepted, and where its block starts in each reference.
+#![tactic(auto)]
+
 mod judging;
 
 pub use judging::{

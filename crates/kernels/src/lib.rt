@@ -1,4 +1,6 @@
 // Rows of results whatever the step and wherever the plane ends. Only `passes` calls it.
+#![tactic(auto)]
+
 mod down;
 mod rows;
 

@@ -1,4 +1,6 @@
 // The calls on the candidates of neighbours: the search with its clamp, the best vectors; and for `sub8x8`, above, what its call shares with them.
+#![tactic(auto)]
+
 mod mv_ref;
 
 pub use mv_ref::{

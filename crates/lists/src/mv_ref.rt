@@ -11,7 +11,7 @@ use records::MvRefGeometry;
 
 // What the search finds: two candidates, and the context of the neighbours' modes.
 #[repr(C)]
-#[derive(Drop)]
+#[derive(Clone, Copy)]
 pub struct MvRefs {
     pub answer: u32,
     pub first: Mv,
@@ -21,7 +21,7 @@ pub struct MvRefs {
 
 // Two vectors, the nearest and the near one.
 #[repr(C)]
-#[derive(Drop)]
+#[derive(Clone, Copy)]
 pub struct MvPair {
     pub answer: u32,
     pub first: Mv,

@@ -1,4 +1,6 @@
 // Both passes over a block. `blocks` calls them; `pair_passes` takes from them what filter 3 shares with the others.
+#![tactic(auto)]
+
 mod passes;
 
 pub use passes::{

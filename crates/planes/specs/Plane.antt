@@ -71,7 +71,7 @@ row_of p y = take (width_of p.geom) (drop (first_of p.geom y) (cond (above p.geo
 
 -- where sample i of a lent slice stands in memory, two bytes a sample: the piece of memory and the byte in it
 abbrev pub sample_at : Bor (List ℕ) → ℕ → ℕ × ℕ
-sample_at band i = (band.ptr.0, i * 2 + band.ptr.1)
+sample_at band i = (band.ref_ptr.0, i * 2 + band.ref_ptr.1)
 
 -- where the first sample of row y stands
 unfoldable pub row_at : PlaneGeom → Bor (List ℕ) → Bor (List ℕ) → ℕ → ℕ × ℕ

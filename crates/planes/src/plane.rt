@@ -9,7 +9,7 @@ use base::{SHORT, SIZE, START, between, natural, unless, within};
 
 // Its size in samples, the distance between rows, and how many rows the upper band has; the lower one has the rest.
 #[repr(C)]
-#[derive(Drop)]
+#[derive(Clone, Copy)]
 pub struct PlaneGeom {
     pub width: i32,
     pub height: i32,

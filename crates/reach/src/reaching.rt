@@ -11,7 +11,7 @@ use blocks::Stepping;
 
 // The first and the last column and row; refused, all are 0.
 #[repr(C)]
-#[derive(Drop)]
+#[derive(Clone, Copy)]
 pub struct Reach {
     pub answer: u32,
     pub first_col: usize,

@@ -6,7 +6,7 @@ ghost use Rattle.records.specs.Lent.{Placed};
 
 // The block, the frame and the block's tile, as the caller counts them.
 #[repr(C)]
-#[derive(Drop)]
+#[derive(Clone, Copy)]
 pub struct MvRefGeometry {
     pub mi_row: i32,
     pub mi_col: i32,
@@ -18,7 +18,7 @@ pub struct MvRefGeometry {
 }
 
 // The cell of a search place, if it is inside.
-#[derive(Drop)]
+#[derive(Clone, Copy)]
 pub enum Spot {
     Out,
     Cell(usize),

@@ -1,4 +1,6 @@
 // The lent tables of the candidate search: where a place's record stands, whether it is inside, how it is read, whether it is legal.
+#![tactic(auto)]
+
 mod geometry;
 mod records;
 mod tables;

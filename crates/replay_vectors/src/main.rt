@@ -1,7 +1,12 @@
 // Replays stored cases of select_mv, clamp_mv and scale_mv: standard input is files of oracle/'s cases, one after the other. A line a file.
-ghost use Rattle.std.specs.Prelude.{◌<◌};
+#![tactic(auto)]
+
+ghost use Rattle.std.specs.Prelude.{◌<◌, IfOk, IsTrue};
+ghost use Rattle.std.specs.Io.KnownBytes.{Consumes};
 
 use base::{Eighth, Mv, PlaneMv, Sixteenth};
+use std::io;
+use std::io::{ErrorKind, Read, Write};
 use stored::{flag_at, i32_at, u32_at, usize_at};
 use vectors::{BlockGrid, ScaleGeom};
 
@@ -76,70 +81,80 @@ fn scale_agrees(r: &[u8]) -> bool {
     (found.answer == u32_at(r, 44)) & starts & steps
 }
 
+// Fills bytes from the input; false where the input ends before.
+fn fill<R: Read>(input: &mut R, bytes: &mut [u8]) -> io::Result<bool>
+    ensures { IfOk result (λ full. IsTrue full → Consumes (R.remaining input.old) (R.remaining input.new) bytes.new) }
+{
+    match input.read_exact(bytes) {
+        Ok(()) => Ok(true),
+        Err(e) if e.kind() == ErrorKind::UnexpectedEof => Ok(false),
+        Err(e) => Err(e),
+    }
+}
+
 // The next record of a call; one that is missing does not agree.
-fn next_agrees(call: u32) -> bool {
+fn next_agrees<R: Read>(input: &mut R, call: u32) -> io::Result<bool> {
     if call == 1 {
         let mut r = [0u8; 96];
-        if io::read_full(libc::STDIN_FILENO, &mut r) == 96 {
-            return select_agrees(&r);
+        if fill(input, &mut r)? {
+            return Ok(select_agrees(&r));
         }
-        return false;
+        return Ok(false);
     }
     if call == 2 {
         let mut r = [0u8; 48];
-        if io::read_full(libc::STDIN_FILENO, &mut r) == 48 {
-            return clamp_agrees(&r);
+        if fill(input, &mut r)? {
+            return Ok(clamp_agrees(&r));
         }
-        return false;
+        return Ok(false);
     }
     if call == 3 {
         let mut r = [0u8; 64];
-        if io::read_full(libc::STDIN_FILENO, &mut r) == 64 {
-            return scale_agrees(&r);
+        if fill(input, &mut r)? {
+            return Ok(scale_agrees(&r));
         }
     }
-    false
+    Ok(false)
 }
 
-fn differences(call: u32, count: u32) -> u32 {
-    let mut i = 0;
+fn differences<R: Read>(input: &mut R, call: u32, count: u32) -> io::Result<u32> {
     let mut wrong = 0;
-    while i < count {
-        if !next_agrees(call) {
+    for i in 0..count {
+        if !next_agrees(input, call)? {
             wrong += 1;
         }
-        i += 1;
     }
-    wrong
+    Ok(wrong)
 }
 
 // One file of cases; false at the end of the input.
-fn file() -> bool {
+fn file<R: Read, W: Write>(input: &mut R, output: &mut W) -> io::Result<bool> {
     let mut header = [0u8; 16];
-    if io::read_full(libc::STDIN_FILENO, &mut header) != 16 {
-        return false;
+    if !fill(input, &mut header)? {
+        return Ok(false);
     }
     let call = stored::call_of(&header);
     let count = u32_at(&header, 12);
-    let wrong = differences(call, count);
+    let wrong = differences(input, call, count)?;
     if call == 1 {
-        stored::report(b"select_mv", count, wrong);
+        stored::report(output, b"select_mv", count, wrong)?;
     } else if call == 2 {
-        stored::report(b"clamp_mv", count, wrong);
+        stored::report(output, b"clamp_mv", count, wrong)?;
     } else if call == 3 {
-        stored::report(b"scale_mv", count, wrong);
+        stored::report(output, b"scale_mv", count, wrong)?;
     } else {
-        stored::report(b"no call of this program", count, wrong);
+        stored::report(output, b"no call of this program", count, wrong)?;
     }
-    true
+    Ok(true)
 }
 
-fn main() {
-    let mut files: usize = 0;
-    while files < 3 {
-        if !file() {
-            return;
+fn main(rt: HostRuntime) -> io::Result<()> {
+    let mut input = rt.stdin();
+    let mut output = rt.stdout();
+    for _ in 0..3 {
+        if !file(&mut input, &mut output)? {
+            break;
         }
-        files += 1;
     }
+    Ok(())
 }

@@ -1,4 +1,6 @@
 // Which vector a plane takes, below `vectors`: means of sub-blocks, partners, legal lists. Its functions may have `requires`.
+#![tactic(auto)]
+
 mod block_mvs;
 mod select;
 

@@ -1,6 +1,12 @@
 // Numbers of a stored case, in oracle/README.md's format: little-endian, signed ones in two's complement. Past the record's end every byte is 0.
-ghost use Rattle.std.specs.Prelude.{◌≡◌, ◌<◌, ◌≤◌, get_or};
+#![tactic(auto)]
+
+ghost use Rattle.std.specs.Prelude.{◌≡◌, ◌<◌, ◌≤◌, ◌++◌, get_or, OnOk, codes, decimal};
+ghost use Rattle.std.specs.Io.KnownBytes.{Appends};
 ghost use Rattle.stored.specs.Bytes.{little, flag, signed, call_in};
+
+use std::io;
+use std::io::Write;
 
 pub fn byte_at(bytes: &[u8], at: usize) -> u8
     ensures { result ≡ get_or bytes.now at 0 }
@@ -75,11 +81,10 @@ pub fn call_of(header: &[u8]) -> u32
 }
 
 // Writes 'NAME: N cases, D differences'.
-pub fn report(name: &[u8], cases: u32, differences: u32) {
-    io::write_all(libc::STDOUT_FILENO, name);
-    io::write_all(libc::STDOUT_FILENO, b": ");
-    io::print_decimal(libc::STDOUT_FILENO, cases as u64);
-    io::write_all(libc::STDOUT_FILENO, b" cases, ");
-    io::print_decimal(libc::STDOUT_FILENO, differences as u64);
-    io::write_all(libc::STDOUT_FILENO, b" differences\n");
+pub fn report<W: Write>(output: &mut W, name: &[u8], cases: u32, differences: u32) -> io::Result<()>
+    ensures { OnOk result (Appends (W.contents output.old) (W.contents output.new)
+        (name.now ++ (codes ": " ++ (decimal cases ++ (codes " cases, " ++ (decimal differences ++ codes " differences\n")))))) }
+{
+    output.write_all(name)?;
+    writeln!(output, ": {cases} cases, {differences} differences")
 }

@@ -1,4 +1,6 @@
 // The filters' taps, and what all rows of results are told in. The crates of rows stand on it.
+#![tactic(auto)]
+
 mod plain;
 mod taps;
 

@@ -87,7 +87,7 @@ pub fn subpel_filters() -> [[[i16; 8]; 16]; 4]
 }
 
 // A row of the table, each tap with 24 added, so that none is below zero.
-#[derive(Drop)]
+#[derive(Clone, Copy)]
 pub struct Taps {
     pub filter: usize,
     pub phase: usize,

@@ -10,7 +10,7 @@ use base::{Eighth, Mv, PlaneMv, Sixteenth};
 // ---- selection, 8.5.2.1
 
 #[repr(C)]
-#[derive(Drop)]
+#[derive(Clone, Copy)]
 pub struct SelectedMv {
     pub answer: u32,
     pub mv: Mv,
@@ -64,7 +64,7 @@ pub fn select_mv(
 
 // Where a block stands, in cells of 8 by 8 luma samples.
 #[repr(C)]
-#[derive(Drop)]
+#[derive(Clone, Copy)]
 pub struct BlockGrid {
     pub mi_row: i32,
     pub mi_col: i32,
@@ -74,7 +74,7 @@ pub struct BlockGrid {
 }
 
 #[repr(C)]
-#[derive(Drop)]
+#[derive(Clone, Copy)]
 pub struct ClampedMv {
     pub answer: u32,
     pub mv: PlaneMv,
@@ -126,7 +126,7 @@ pub fn clamp_mv(grid: BlockGrid, mv: Mv, plane: usize, sx: bool, sy: bool) -> Cl
 
 // The sizes of a reference and of the frame in luma samples, and the stream's sub.
 #[repr(C)]
-#[derive(Drop)]
+#[derive(Clone, Copy)]
 pub struct ScaleGeom {
     pub ref_frame_width: i32,
     pub ref_frame_height: i32,
@@ -138,7 +138,7 @@ pub struct ScaleGeom {
 
 // Where a block starts in the reference's plane, and the step from sample to sample.
 #[repr(C)]
-#[derive(Drop)]
+#[derive(Clone, Copy)]
 pub struct ScaledMv {
     pub answer: u32,
     pub start_x: Sixteenth,

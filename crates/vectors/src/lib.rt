@@ -1,5 +1,7 @@
 // The six calls on vectors: which one a plane takes, the clamp, the position and the step in the reference; and, passed on from the crates below,
 // the search, the best vectors and the list of a block below 8x8.
+#![tactic(auto)]
+
 mod inter_mv;
 
 pub use inter_mv::{

@@ -1,0 +1,19 @@
+-- `candidates::covered` meets its contract, arm by arm. Assumes nothing.
+use native.Mathlib.Omega.{arith}
+use mir.Syntax.{w32}
+use mir.Val.{SFits}
+use Rattle.base.proofs.Bits.{eqb-bits}
+use Rattle.candidates.specs.Scan.{covered}
+use Rattle.candidates.proofs.scan.covered.Goals as goal
+
+pub returns-then-ask : goal.returns-then-ask
+unfolding covered
+returns-then-ask c =
+    rw (c.if-ask.true, ← c.mv_at.ensures.is, ← c.mv_at-then-ask.ensures.is) c.same_mv.ensures
+
+pub returns-else-ask : goal.returns-else-ask
+unfolding covered
+returns-else-ask c =
+    let a = c.args in
+    let target : SFits w32 a.ask.target = record { sfits = omega (arith, c.struct_told-1.given) } in
+    rw (c.if-ask.false, ← c.frame_at.ensures) (eqb-bits w32 c.frame_at.result a.ask.target (record { sfits = c.frame_at.type_inv }) target)

@@ -1,0 +1,76 @@
+-- `pair_passes::both::pass_down_mean` meets its contract. The loop keeps up that the first r rows are averaged. Assumes nothing.
+use mathlib.Core.Path.{◌≡◌, ap, ◌∙◌}
+use mathlib.Core.List.{List}
+use Prim.Native.Nat.{ℕ, ◌+◌, ◌-◌, ◌*◌, ◌≤◌}
+use native.Mathlib.Nat.{mul-le-mul}
+use native.Mathlib.Omega.{arith}
+use lib.ListN.{length}
+use Rattle.base.specs.Paint.{fill}
+use Rattle.taps.specs.Kernel.{mean_of}
+use Rattle.taps.proofs.Loops.{paint_none, paint_turn}
+use Rattle.planes.proofs.Bands.{holds_row}
+use Rattle.passes.specs.Lifted.{mean_with}
+use Rattle.passes.proofs.Blocks.{mean_unpainted}
+use Rattle.pair_passes.specs.PairDown.{pair_down}
+use Rattle.pair_passes.proofs.TwoRows.{low_row}
+use Rattle.pair_passes.proofs.both.pass_down_mean.Goals as goal
+use Rattle.pair_passes.proofs.both.pass_down_mean.Goals.{In-loop-r}
+
+far : (c : In-loop-r) → c.args.step * c.loop-r.r ≤ 32 * 63
+far c = mul-le-mul {n₂ = 32} {m₂ = 63} (omega arith) (omega arith)
+
+pub loop-r-init : goal.loop-r-init
+loop-r-init c = (omega arith, paint_none _ _ _ _)
+
+pub overflow_mul-q : goal.overflow_mul-q
+overflow_mul-q c = omega (arith, far c)
+
+pub overflow_add-q : goal.overflow_add-q
+overflow_add-q c = omega (arith, far c)
+
+pub overflow_sub-b : goal.overflow_sub-b
+overflow_sub-b c = omega (arith, far c)
+
+pub overflow_mul-b : goal.overflow_mul-b
+overflow_mul-b c = omega (arith, far c)
+
+pub overflow_mul-r : goal.overflow_mul-r
+overflow_mul-r c =
+    let in-out : let a = c.args in
+    c.loop-r.r * a.stride + a.w ≤ length a.out.now = let a = c.args in holds_row a.h a.stride a.w (length a.out.now) c.loop-r.r c.requires.out_value (omega arith) in
+    omega (arith, in-out)
+
+pub row_mean-requires : goal.row_mean-requires
+row_mean-requires c =
+    let far : c.args.step * c.loop-r.r ≤ 32 * 63 = mul-le-mul {n₂ = 32} {m₂ = 63} (omega arith) (omega arith) in
+    let in-out : let a = c.args in
+    c.loop-r.r * a.stride + a.w ≤ length a.out.now = let a = c.args in holds_row a.h a.stride a.w (length a.out.now) c.loop-r.r c.requires.out_value (omega arith) in
+    let a = c.args in
+    let r = c.loop-r in
+    let low = low_row a.max a.room.now a.w a.start a.step r.r a.h c.requires.held_room (omega arith) in
+    record { p_bound = omega (arith, c.phase_of.ensures.1, far, in-out, c.requires.start_bound, r.invariant.1.long); low = low }
+
+pub overflow_add-r : goal.overflow_add-r
+overflow_add-r c = omega arith
+
+pub loop-r-smaller : goal.loop-r-smaller
+loop-r-smaller c = omega arith
+
+pub loop-r-preserved : goal.loop-r-preserved
+unfolding pair_down mean_with
+loop-r-preserved c =
+    let l = c.loop-r in
+    let a = c.args in
+    let g = pair_down a.max a.room.now a.start a.step in (
+      omega arith,
+      paint_turn l.invariant.1
+          (rw c.phase_of.ensures.0 at c.row_mean.ensures
+          ∙ ap (λ (o : List ℕ). fill l.out (l.r * a.stride) a.w (mean_of o (l.r * a.stride) (g l.r))) l.invariant.1.is
+          ∙ mean_unpainted a.out.now a.stride a.w l.r (mean_with a.out.now a.stride g) (g l.r) l.out c.requires.start_bound.5),
+    )
+
+pub shape_of-out : goal.shape_of-out
+shape_of-out c = c.loop-r.invariant.1.long
+
+pub returns : goal.returns
+returns c = let e : c.loop-r.r ≡ c.args.h = omega arith in rw e at c.loop-r.invariant.1.is

@@ -1,0 +1,36 @@
+-- `records::spot_of` meets its contract: a step from the block's own row and column. Assumes nothing.
+use mathlib.Core.Path.{◌≡◌, ◌∙◌}
+use Rattle.places.specs.Places.{offset}
+use Rattle.records.specs.Tables.{spot}
+use Rattle.records.proofs.Grid.{grid}
+use Rattle.places.proofs.Steps.{step_small, moves, moved}
+use Rattle.records.proofs.geometry.spot_of.Goals as goal
+
+pub overflow_add-row : goal.overflow_add-row
+unfolding offset
+overflow_add-row c =
+    let row_step : c.step_of.result ≡ offset c.args.g.mi_size c.args.k 0 = rw c.requires.1 at c.step_of.ensures in
+    let a = c.args in
+    moves a.g.mi_row c.step_of.result (offset a.g.mi_size a.k 0) (grid a.g c.requires.0).row_abs
+    (step_small a.g.mi_size a.k 0) row_step
+
+pub overflow_add-col : goal.overflow_add-col
+unfolding offset
+overflow_add-col c =
+    let col-step : c.step_of-2.result ≡ offset c.args.g.mi_size c.args.k 1 = rw c.requires.1 at c.step_of-2.ensures in
+    let a = c.args in
+    moves a.g.mi_col c.step_of-2.result (offset a.g.mi_size a.k 1) (grid a.g c.requires.0).col_abs
+    (step_small a.g.mi_size a.k 1) col-step
+
+pub returns : goal.returns
+unfolding spot offset
+returns c =
+    let row_step : c.step_of.result ≡ offset c.args.g.mi_size c.args.k 0 = rw c.requires.1 at c.step_of.ensures in
+    let col-step : c.step_of-2.result ≡ offset c.args.g.mi_size c.args.k 1 = rw c.requires.1 at c.step_of-2.ensures in
+    let g = c.args.g in
+    let size = g.mi_size in
+    let k = c.args.k in
+    let ok = grid g c.requires.0 in
+    let row = moved g.mi_row c.step_of.result (offset size k 0) ok.row_abs (step_small size k 0) row_step in
+    let col = moved g.mi_col c.step_of-2.result (offset size k 1) ok.col_abs (step_small size k 1) col-step in
+    c.spot_at.ensures ∙ rw (row, col)
