@@ -16,7 +16,7 @@ same-refusal b e f h = rw (e, f, h)
 pub returns : goal.returns
 returns c =
     let asked : Whole = let a = c.args in
-    whole a.args a.grid a.frame a.t4 (source a.geom a.upper.now a.lower.now) (source a.geom2 a.upper2.now a.lower2.now)
+    whole a.args a.grid a.frame a.mvs (source a.geom a.upper.now a.lower.now) (source a.geom2 a.upper2.now a.lower2.now)
     a.dest in
     let a = asked in
     let e = c.lead-one.ensures in
