@@ -8,7 +8,7 @@ use judgement::{DestGeom, FrameGeom, InterPredArgs, RefGeom};
 use vectors::BlockGrid;
 
 // The bands of the plane that is lent, the frame's size in luma samples, the distance between rows, and how many rows the upper band has.
-#[derive(Drop)]
+#[derive(Clone, Copy)]
 pub struct RefFrame<'a> {
     pub upper: &'a [u16],
     pub lower: &'a [u16],

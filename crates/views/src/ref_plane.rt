@@ -8,7 +8,7 @@ ghost use Rattle.views.specs.Seen.{size_of, lent_by};
 use samples::{BlockShape, PlaneGeom, Stepping, block_inter_predict, row_read};
 
 // The bands, the plane's size in samples, the distance between rows, and how many rows the upper band has; the lower one has the rest.
-#[derive(Drop)]
+#[derive(Clone, Copy)]
 pub struct RefPlane<'a> {
     pub upper: &'a [u16],
     pub lower: &'a [u16],
