@@ -9,7 +9,6 @@ use lib.ListN.{length, get_or}
 use Rattle.base.specs.Paint.{paint}
 use Rattle.base.proofs.Painted.{paint_at}
 use Rattle.taps.specs.Taps.{tap}
-use Rattle.taps.specs.Filter.{filtered}
 use Rattle.taps.specs.Kernel.{level, levels, held_from, seat}
 use Rattle.taps.proofs.Filtered.{filtered_whole}
 use Rattle.pairs.specs.Pair.{fourth_at, pair_ran, pair_rows, pair_stepped, Low}

@@ -1,6 +1,5 @@
 -- `copies::copy::row_of` meets its contract. The loop keeps up that the first c are written. Assumes nothing.
 use mathlib.Core.Path.{◌≡◌, refl}
-use Prim.Native.Nat.{◌-◌}
 use native.Mathlib.Omega.{arith}
 use Rattle.taps.specs.Kernel.{alike}
 use Rattle.taps.proofs.Loops.{fill_none, fill_turn}

@@ -1,6 +1,6 @@
 -- `copies::copy::row_sixteens` meets its contract. The loop keeps up that the first c samples are written, c a multiple of sixteen. Assumes nothing.
 use mathlib.Core.Path.{◌≡◌, refl}
-use Prim.Native.Nat.{◌+◌, ◌-◌}
+use Prim.Native.Nat.{◌+◌}
 use native.Mathlib.Nat.{add_assoc}
 use native.Mathlib.Omega.{arith}
 use Rattle.taps.proofs.Loops.{fill_none}

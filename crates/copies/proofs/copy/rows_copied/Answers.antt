@@ -1,6 +1,6 @@
 -- `copies::copy::rows_copied` meets its contract. The loop keeps up that the first i rows are painted. Assumes nothing.
 use mathlib.Core.Path.{◌≡◌}
-use Prim.Native.Nat.{◌+◌, ◌-◌, ◌*◌, ◌≤◌}
+use Prim.Native.Nat.{◌+◌, ◌*◌, ◌≤◌}
 use native.Mathlib.Omega.{arith}
 use lib.ListN.{length}
 use Rattle.copies.specs.Copy.{clipped_rows}

@@ -1,6 +1,6 @@
 -- `copies::copy::sixty_four` meets its contract. The loop keeps up that the first c samples are written, c a multiple of eight. Assumes nothing.
 use mathlib.Core.Path.{◌≡◌, refl}
-use Prim.Native.Nat.{◌+◌, ◌-◌}
+use Prim.Native.Nat.{◌+◌}
 use native.Mathlib.Omega.{arith}
 use Rattle.taps.proofs.Loops.{fill_none}
 use Rattle.taps.proofs.Runs.{run_turn}

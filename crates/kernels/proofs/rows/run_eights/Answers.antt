@@ -1,5 +1,5 @@
 -- `kernels::rows::run_eights` meets its contract. The loop keeps up that c numbers are written, the last of them past the end. Assumes nothing.
-use Prim.Native.Nat.{◌+◌, ◌-◌}
+use Prim.Native.Nat.{◌+◌}
 use Rattle.taps.proofs.Runs.{gathered_none, gathered_fill, gathered_less, gathered_join}
 use Rattle.taps.specs.Kernel.{alike}
 use mathlib.Core.Path.{refl}

@@ -1,5 +1,5 @@
 -- `kernels::rows::run_overlapped` meets its contract. The loop keeps up that the first c samples are written, or all of them. Assumes nothing.
-use Prim.Native.Nat.{◌-◌, min}
+use Prim.Native.Nat.{min}
 use Rattle.taps.proofs.Runs.{gathered_none, gathered_fill, gathered_join, overlap, onward_on}
 use mathlib.Core.Path.{◌≡◌, refl}
 use native.Mathlib.Omega.{arith}

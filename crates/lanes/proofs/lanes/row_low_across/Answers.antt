@@ -1,5 +1,4 @@
 -- `lanes::lanes::row_low_across` meets its contract. The loop keeps up that c results are written, eight at a time. Assumes nothing.
-use Prim.Native.Nat.{◌-◌}
 use Rattle.taps.proofs.Loops.{fill_none}
 use Rattle.taps.proofs.Runs.{run_turn}
 use Rattle.taps.specs.Kernel.{low_ran}

@@ -1,6 +1,5 @@
 -- `lanes::lanes::row_wide_across` meets its contract. The loop keeps up that the first c results are written. Assumes nothing.
 use mathlib.Core.Path.{◌≡◌}
-use Prim.Native.Nat.{◌-◌}
 use native.Mathlib.Omega.{arith}
 use Rattle.taps.specs.Kernel.{ran}
 use Rattle.taps.proofs.Loops.{fill_none, fill_turn}

@@ -1,5 +1,5 @@
 -- `lanes::lanes::top_of_row` meets its contract. The loop keeps up that neither v nor a sample so far is above the top. Assumes nothing.
-use Prim.Native.Nat.{◌-◌, min}
+use Prim.Native.Nat.{min}
 use Rattle.lanes.proofs.Tops.{top_none, top_more}
 use mathlib.Core.Path.{◌≡◌}
 use native.Mathlib.Omega.{arith}

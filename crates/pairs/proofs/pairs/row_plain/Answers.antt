@@ -1,6 +1,5 @@
 -- `pairs::pairs::row_plain` meets its contract. The loop keeps up that the first c results are written. Assumes nothing.
 use mathlib.Core.Path.{◌≡◌}
-use Prim.Native.Nat.{◌-◌}
 use native.Mathlib.Omega.{arith}
 use Rattle.pairs.specs.Pair.{pair_ran}
 use Rattle.taps.proofs.Loops.{fill_none, fill_turn}

@@ -1,6 +1,6 @@
 -- `pairs::pairs::row_sixteens` meets its contract. The loop keeps up that c results are written, or all of them. Assumes nothing.
 use mathlib.Core.Path.{◌≡◌}
-use Prim.Native.Nat.{◌-◌, min}
+use Prim.Native.Nat.{min}
 use native.Mathlib.Nat.{add_assoc}
 use native.Mathlib.Omega.{arith}
 use Rattle.taps.proofs.Loops.{fill_none}

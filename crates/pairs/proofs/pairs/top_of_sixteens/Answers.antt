@@ -1,6 +1,6 @@
 -- `pairs::pairs::top_of_sixteens` meets its contract. The loop keeps up that no sample so far is above the top. Assumes nothing.
 use mathlib.Core.Path.{◌≡◌}
-use Prim.Native.Nat.{◌-◌, min}
+use Prim.Native.Nat.{min}
 use native.Mathlib.Omega.{arith}
 use Rattle.lanes.proofs.Tops.{top_none}
 use Rattle.pairs.proofs.Two.{weaker, top_again}

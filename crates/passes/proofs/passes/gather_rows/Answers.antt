@@ -1,6 +1,5 @@
 -- `passes::passes::gather_rows` meets its contract. The loop keeps up that the first j lines are gathered. Assumes nothing.
 use mathlib.Core.Path.{◌≡◌, refl, ap, ◌∙◌}
-use Prim.Native.Nat.{◌-◌}
 use native.Mathlib.Omega.{arith}
 use Rattle.planes.specs.Plane.{row_of}
 use Rattle.planes.specs.Plane.{view}

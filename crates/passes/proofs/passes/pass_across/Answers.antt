@@ -1,9 +1,8 @@
 -- `passes::passes::pass_across` meets its contract. The loop keeps up that the first i rows are painted. Assumes nothing.
 use mathlib.Core.Path.{◌≡◌, ap, ◌∙◌}
-use Prim.Native.Nat.{◌+◌, ◌-◌, ◌*◌, ◌≤◌}
+use Prim.Native.Nat.{◌+◌, ◌*◌, ◌≤◌}
 use native.Mathlib.Omega.{arith}
 use lib.ListN.{length}
-use Rattle.base.specs.Answer.{row}
 use Rattle.base.proofs.Painted.{fill_same}
 use Rattle.taps.specs.Taps.{tap}
 use Rattle.planes.specs.Plane.{row_of}

@@ -2,7 +2,6 @@
 use mathlib.Core.Path.{◌≡◌, sym, ◌∙◌}
 use native.Mathlib.Omega.{arith}
 use borrow.Author.Tests.{ne_eqb}
-use Rattle.base.specs.Answer.{row}
 use Rattle.planes.specs.Plane.{lent, fits, row_of, row_at}
 use Rattle.planes.proofs.Bands.{read_accepted}
 use Rattle.base.proofs.Casts.{read_back}

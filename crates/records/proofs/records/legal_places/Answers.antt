@@ -1,7 +1,6 @@
 -- `records::legal_places` meets its contract. Invariant: ok says whether the records of the first k places are legal. Assumes nothing.
 use mathlib.Core.Path.{◌≡◌, refl, ap, ◌∙◌}
 use mathlib.Core.List.{[]}
-use Prim.Native.Nat.{◌-◌}
 use native.Mathlib.Numerals.{add-one}
 use native.Mathlib.Omega.{arith}
 use Rattle.records.specs.Tables.{tables}

@@ -1,6 +1,6 @@
 -- `taps::plain::row_averaged` meets its contract. The loop keeps up that the first c means are written. Assumes nothing.
 use mathlib.Core.Path.{◌≡◌, ◌∙◌}
-use Prim.Native.Nat.{◌+◌, ◌-◌}
+use Prim.Native.Nat.{◌+◌}
 use native.Mathlib.Omega.{arith}
 use Rattle.base.proofs.Painted.{fill_else}
 use Rattle.taps.specs.Kernel.{mean_of, onward}

@@ -1,6 +1,5 @@
 -- `taps::plain::row_clipped` meets its contract. The loop keeps up that the first c samples are written. Assumes nothing.
 use mathlib.Core.Path.{◌≡◌}
-use Prim.Native.Nat.{◌-◌}
 use native.Mathlib.Omega.{arith}
 use Rattle.taps.specs.Kernel.{clipped}
 use Rattle.taps.proofs.Loops.{fill_none, fill_turn}

@@ -1,5 +1,4 @@
 -- `taps::plain::run_copied` meets its contract. The loop keeps up that the first c samples are written. Assumes nothing.
-use Prim.Native.Nat.{◌-◌}
 use Rattle.taps.proofs.Loops.{fill_none, fill_turn}
 use Rattle.taps.specs.Kernel.{onward}
 use mathlib.Core.Path.{◌≡◌, refl}
