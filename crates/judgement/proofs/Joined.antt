@@ -198,7 +198,8 @@ module _ (b : InterPredArgs) (g : BlockGrid) (f : FrameGeom) where
   unfolding lead select_mv block_ok
   block_at s l = other_first _ _
 
-  pub vector_at : (mvs : BlockMvs) (s : RefGeom) (list : ℕ) → block_ok b g f ≡ true → other_than 9 (lead b g f s (get_or mvs list [])).select ≡ legal_list mvs list
+  pub vector_at : (mvs : BlockMvs) (s : RefGeom) (list : ℕ) → block_ok b g f ≡ true → other_than 9 (lead b g f s (get_or mvs list [])).select
+      ≡ legal_list mvs list
   unfolding lead select_mv block_ok legal_block legal_list
   vector_at mvs s list e = other_ninth _ _ e ∙ both_same _
 

@@ -6,7 +6,8 @@ use Rattle.base.specs.Paint.{paint, on_part}
 use Rattle.samples.specs.Call.{Call, call, ref, value}
 use Rattle.judgement.specs.declared.judging.InterPredArgs.{InterPredArgs}
 use Rattle.judgement.specs.declared.judging.DestGeom.{DestGeom}
-pub use Rattle.judgement.specs.Whole.{Source, source, Whole, whole, plane_geom, plane_of, scale_geom, stepping_of, count_inside, shape_in, shape_of, predict_rows}
+pub use Rattle.judgement.specs.Whole.{Source, source, Whole, whole, plane_geom, plane_of}
+pub use Rattle.judgement.specs.Whole.{scale_geom, stepping_of, count_inside, shape_in, shape_of, predict_rows}
 unfoldable pub use Rattle.judgement.specs.Whole.{extent, stepping, allowed_ref, dest_fits, block_ok, number_of}
 
 -- 8.5.2, step 5: the block prediction of the part inside, its reference 0 from list 0 and its reference 1 from list 1

@@ -40,7 +40,13 @@ pair_block-requires c =
     let f = facts in
     let lx = c.lift-sx.ensures.1 in
     let ly = c.lift-sy.ensures.1 in
-    rw (ew, eh) (record { sx_bound = omega (arith, f.filter, f.w, f.h, f.from.across, f.from.down, lx, ly, ex, ey); pw_nonzero = omega (arith, f.width, f.height, c.requires.out_value); lower_value = c.requires.legal.bands; out_value = c.requires.out_value.0; max_bound = rw c.top-max.ensures (depth_top a.shape c.requires.legal.filter) })
+    rw (ew, eh) (record {
+      sx_bound = omega (arith, f.filter, f.w, f.h, f.from.across, f.from.down, lx, ly, ex, ey);
+      pw_nonzero = omega (arith, f.width, f.height, c.requires.out_value);
+      lower_value = c.requires.legal.bands;
+      out_value = c.requires.out_value.0;
+      max_bound = rw c.top-max.ensures (depth_top a.shape c.requires.legal.filter);
+    })
 
 pub returns-then-by_pairs : goal.returns-then-by_pairs
 unfolding mean_with mean_of
@@ -73,7 +79,13 @@ block_mean-requires c =
     let f = facts in
     let lx = c.lift-sx.ensures.1 in
     let ly = c.lift-sy.ensures.1 in
-    rw (ew, eh) (record { filter_bound = omega (arith, f.filter, f.w, f.h, f.from.across, f.from.down, lx, ly, ex, ey); pw_nonzero = omega (arith, f.width, f.height, c.requires.out_value); lower_value = c.requires.legal.bands; out_value = c.requires.out_value.0; max_bound = rw c.top-max.ensures (depth_top a.shape c.requires.legal.filter) })
+    rw (ew, eh) (record {
+      filter_bound = omega (arith, f.filter, f.w, f.h, f.from.across, f.from.down, lx, ly, ex, ey);
+      pw_nonzero = omega (arith, f.width, f.height, c.requires.out_value);
+      lower_value = c.requires.legal.bands;
+      out_value = c.requires.out_value.0;
+      max_bound = rw c.top-max.ensures (depth_top a.shape c.requires.legal.filter);
+    })
 
 pub returns : goal.returns
 unfolding mean_with mean_of

@@ -50,14 +50,22 @@ module _ (g : MvRefGeometry) (k : ℕ) {ms : List ℕ} {fs vs ss : List ℤ} (al
       record { frames = omega (arith, below, all.pairs.frames); subs = omega (arith, below, all.subs) }
 
 pub context-context-requires : goal.context-context-requires
-context-context-requires c = record { mode_at = mode-at c.args.g 0 (roomy c) c.requires.g_value.0 c.spot_of-one.ensures; mode_at_2 = mode-at c.args.g 1 (roomy c) c.requires.g_value.0 c.spot_of-two.ensures }
+context-context-requires c =
+    record {
+      mode_at = mode-at c.args.g 0 (roomy c) c.requires.g_value.0 c.spot_of-one.ensures;
+      mode_at_2 = mode-at c.args.g 1 (roomy c) c.requires.g_value.0 c.spot_of-two.ensures;
+    }
 
 pub nearest-step1-requires : goal.nearest-step1-requires
 nearest-step1-requires c =
     let lent : Tables = let a = c.args in
     tables a.modes.now a.frames.now a.mvs.now a.subs.now a.prev_frames.now a.prev_mvs.now in
     let roomy : let t = lent in Room (cells c.args.g) t.modes t.frames t.mvs t.subs = room lent c.args.g c.args.use_prev c.requires.use_prev_value in
-    record { subs_at = subs-at c.args.g 0 roomy c.requires.g_value.0 c.spot_of-one.ensures; subs_at_2 = subs-at c.args.g 1 roomy c.requires.g_value.0 c.spot_of-two.ensures; block_value = rw (back c.ranges.block) c.requires.g_value.2 }
+    record {
+      subs_at = subs-at c.args.g 0 roomy c.requires.g_value.0 c.spot_of-one.ensures;
+      subs_at_2 = subs-at c.args.g 1 roomy c.requires.g_value.0 c.spot_of-two.ensures;
+      block_value = rw (back c.ranges.block) c.requires.g_value.2;
+    }
 
 pub scan-step2-requires : goal.scan-step2-requires
 scan-step2-requires c =

@@ -88,7 +88,8 @@ places-preserved c =
             | in-Out w ↦ w.h-is ∙ nowhere a.frames.now a.mvs.now a.g a.ask c.places.k c.places.h (sym s.ensures ∙ w.in-Out.is)
             | in-Cell+else-loop-list-test w ↦ somewhere a.frames.now a.mvs.now a.g a.ask c.places.k w.in-Cell.i c.places.h c.match-s.h
                 (sym s.ensures ∙ w.in-Cell.is)
-                (w.h-is ∙ done (list_of a.frames.now a.mvs.now a.ask w.in-Cell.i) 2 w.loop-list.h _ w.loop-list.list w.loop-list-test.false w.loop-list.invariant.1)
+                (w.h-is ∙ done (list_of a.frames.now a.mvs.now a.ask w.in-Cell.i) 2 w.loop-list.h _ w.loop-list.list w.loop-list-test.false
+                w.loop-list.invariant.1)
           ])
           c.places.invariant.1,
     )

@@ -15,7 +15,8 @@ decreases-loop-list l = 2 - l.list
 
 abbrev pub invariant-places : goal.invariant-places
 invariant-places l =
-    (l.k ≤ 8) × (offers l.h (run (place_of l.frames l.mvs l.g l.ask) (8 - l.k) l.k) ≡ offers l.initial.h (run (place_of l.frames l.mvs l.g l.ask) (8 - l.from) l.from))
+    (l.k ≤ 8) × (offers l.h (run (place_of l.frames l.mvs l.g l.ask) (8 - l.k) l.k)
+    ≡ offers l.initial.h (run (place_of l.frames l.mvs l.g l.ask) (8 - l.from) l.from))
 
 abbrev pub decreases-places : goal.decreases-places
 decreases-places l = 8 - l.k

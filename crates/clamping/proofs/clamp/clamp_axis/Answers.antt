@@ -41,7 +41,8 @@ far_is : (c : After-margin-room) → c.edge-far.result ≡ edge (c.args.total -�
 far_is c =
     let t = total c.before.before.before ⊖ n c.before.before.before in
     let u = t ⊖ first c.before.before.before in
-    rw (rd w32 (total c.before.before.before) tt, rd w32 (n c.before.before.before) tt, rd w32 t tt, rd w32 (first c.before.before.before) tt, rd w32 u tt) at c.edge-far.ensures.0
+    rw (rd w32 (total c.before.before.before) tt, rd w32 (n c.before.before.before) tt, rd w32 t tt, rd w32 (first c.before.before.before) tt, rd w32 u tt)
+    at c.edge-far.ensures.0
 
 room-is : (c : After-margin-room) → c.margin-room.result ≡ margin c.args.n c.args.s
 room-is c = rw (rd w32 (n c.before.before.before) tt) at c.margin-room.ensures.0
@@ -91,7 +92,14 @@ returns c =
     let high = far c.before.before.before ⊕ less in
     let doubled = lit (pos 2) ⊛ v c.before.before.before.before.before.before in
     let x = shr (2 ^ c.args.s) doubled in
-    let ends = rw (rd w32 (near c.before.before.before) tt, rd w32 (room c.before.before.before) tt, rd w32 low tt, rd w32 (far c.before.before.before) tt, rd w32 less tt, rd w32 high tt) at c.clip3.ensures in
+    let ends = rw (
+      rd w32 (near c.before.before.before) tt,
+      rd w32 (room c.before.before.before) tt,
+      rd w32 low tt,
+      rd w32 (far c.before.before.before) tt,
+      rd w32 less tt,
+      rd w32 high tt,
+    ) at c.clip3.ensures in
     let asked = rw (rd w32 (v c.before.before.before.before.before.before) tt, rd w32 doubled tt, rd w32 x tt) at ends in
     let read = to_z-of_z {w = w32} {z = c.clip3.result} (sfits_of c.clip3.type_inv) in
     cc (read, asked, near-is c.before.before.before, far_is c.before.before.before, room-is c.before.before.before)

@@ -33,7 +33,8 @@ row_runs-requires c =
     let inside_is : let a = c.args in
     c.smaller-inside.result ≡ min (a.last + 1 - c.smaller-d.result) (a.w - c.smaller-before.result) = rw c.beyond-3.ensures at c.smaller-inside.ensures in
     let fit : let a = c.args in
-    (c.smaller-before.result + c.smaller-inside.result ≤ a.w) × (c.smaller-d.result + c.smaller-inside.result ≤ a.last + 1) = let a = c.args in runs_fit a.b a.last a.w _ _ _ before-is first_is inside_is in
+    (c.smaller-before.result + c.smaller-inside.result ≤ a.w) × (c.smaller-d.result + c.smaller-inside.result ≤ a.last + 1) = let a = c.args in
+    runs_fit a.b a.last a.w _ _ _ before-is first_is inside_is in
     (c.requires.0, row_in _ _ _ fit.1 c.requires.0, all_in _ _ _ _ _ _ fit.0 c.beyond-after.ensures c.requires.3)
 
 pub returns : goal.returns

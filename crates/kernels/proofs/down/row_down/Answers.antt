@@ -17,7 +17,13 @@ returns-then-p-eq0 c =
 
 pub rows_down-requires : goal.rows_down-requires
 rows_down-requires c =
-    record { taps = c.requires.taps; h_nonzero = omega (arith, c.requires.filter_bound); w_in_bounds = omega (arith, c.requires.filter_bound); below_rows = one_below c.requires.below; max_bound = c.requires.max_bound }
+    record {
+      taps = c.requires.taps;
+      h_nonzero = omega (arith, c.requires.filter_bound);
+      w_in_bounds = omega (arith, c.requires.filter_bound);
+      below_rows = one_below c.requires.below;
+      max_bound = c.requires.max_bound;
+    }
 
 pub returns : goal.returns
 returns c =

@@ -5,7 +5,8 @@ use Rattle.kernels.proofs.Lines.{mean_filled}
 use Rattle.kernels.proofs.down.row_down_mean.Goals as goal
 
 pub row_down-requires : goal.row_down-requires
-row_down-requires c = record { taps = c.requires.taps; filter_bound = omega (arith, c.requires.filter_bound); below = c.requires.below; max_bound = c.requires.max_bound }
+row_down-requires c =
+    record { taps = c.requires.taps; filter_bound = omega (arith, c.requires.filter_bound); below = c.requires.below; max_bound = c.requires.max_bound }
 
 pub returns : goal.returns
 returns c =

@@ -32,7 +32,13 @@ overflow_add-d c =
 
 pub row_line-requires : goal.row_line-requires
 row_line-requires c =
-    record { table_value = c.requires.table_value; taps = c.requires.taps; filter_bound = omega (arith, c.requires); w_in_bounds = omega (arith, c.requires); max_bound = omega (arith, c.requires) }
+    record {
+      table_value = c.requires.table_value;
+      taps = c.requires.taps;
+      filter_bound = omega (arith, c.requires);
+      w_in_bounds = omega (arith, c.requires);
+      max_bound = omega (arith, c.requires);
+    }
 
 pub returns-then-d-m : goal.returns-then-d-m
 unfolding held_from

@@ -31,7 +31,13 @@ gather-requires c =
 pub row_line-requires : goal.row_line-requires
 row_line-requires c =
     let far : c.args.step * (c.args.w - 1) ≤ 32 * 63 = mul-le-mul {n₂ = 32} {m₂ = 63} (omega (arith, c.requires)) (omega (arith, c.requires)) in
-    record { table_value = c.requires.table_value; taps = c.requires.taps; filter_bound = omega (arith, c.requires, far, c.gather.ensures.len); w_in_bounds = omega (arith, c.requires, far, c.gather.ensures.len); max_bound = omega (arith, c.requires, far, c.gather.ensures.len) }
+    record {
+      table_value = c.requires.table_value;
+      taps = c.requires.taps;
+      filter_bound = omega (arith, c.requires, far, c.gather.ensures.len);
+      w_in_bounds = omega (arith, c.requires, far, c.gather.ensures.len);
+      max_bound = omega (arith, c.requires, far, c.gather.ensures.len);
+    }
 
 pub returns : goal.returns
 returns c =

@@ -28,7 +28,12 @@ rows_across-requires c =
     let a = c.args in
     let e : a.step ≡ 16 = omega arith in
     let m = ap (λ (k : ℕ). k * (a.w - 1)) e in
-    record { taps = c.requires.taps; w_nonzero = omega (arith, c.requires.filter_bound); w_in_bounds = omega (arith, m, c.requires.w_in_bounds, c.requires.max_bound); max_bound = c.requires.max_bound }
+    record {
+      taps = c.requires.taps;
+      w_nonzero = omega (arith, c.requires.filter_bound);
+      w_in_bounds = omega (arith, m, c.requires.w_in_bounds, c.requires.max_bound);
+      max_bound = c.requires.max_bound;
+    }
 
 pub returns : goal.returns
 returns c =

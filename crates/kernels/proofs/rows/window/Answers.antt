@@ -18,134 +18,152 @@ far n k j seven = mul-le-mul_left n (omega arith)
 
 pub overflow_mul-n : goal.overflow_mul-n
 overflow_mul-n c =
-    let step_fits : (k j : ℕ) → k + j ≡ 7 → Fits w64 (c.args.n * k) = λ k. λ j. λ seven. omega (arith, far c.args.n k j seven, c.requires.n_in_bounds) in
+    let step_fits : (k j : ℕ) → k + j ≡ 7 → Fits w64 (c.args.n * k) = λ k j seven. omega (arith, far c.args.n k j seven, c.requires.n_in_bounds) in
     step_fits 2 5 refl
 
 pub overflow_add-s-2 : goal.overflow_add-s-2
 overflow_add-s-2 c =
-    let in_list : (k j : ℕ) → k + j ≡ 7 → c.args.s + c.args.n * k < length c.args.l.now = λ k. λ j. λ seven. omega (arith, far c.args.n k j seven, c.requires.n_in_bounds) in
-    let place-fits : (k j : ℕ) → k + j ≡ 7 → Fits w64 (c.args.s + c.args.n * k) = λ k. λ j. λ seven. omega (arith, in_list k j seven, c.well_formed) in
+    let in_list : (k j : ℕ) → k + j ≡ 7 → c.args.s + c.args.n * k < length c.args.l.now =
+    λ k j seven. omega (arith, far c.args.n k j seven, c.requires.n_in_bounds) in
+    let place-fits : (k j : ℕ) → k + j ≡ 7 → Fits w64 (c.args.s + c.args.n * k) = λ k j seven. omega (arith, in_list k j seven, c.well_formed) in
     place-fits 2 5 refl
 
 pub offset_bounds-l-s-3 : goal.offset_bounds-l-s-3
 offset_bounds-l-s-3 c =
-    let in_list : (k j : ℕ) → k + j ≡ 7 → c.args.s + c.args.n * k < length c.args.l.now = λ k. λ j. λ seven. omega (arith, far c.args.n k j seven, c.requires.n_in_bounds) in
-    let bytes_fit : (k j : ℕ) → k + j ≡ 7 → Fits w64 ((c.args.s + c.args.n * k) * 2) = λ k. λ j. λ seven. omega (arith, in_list k j seven, c.well_formed) in
+    let in_list : (k j : ℕ) → k + j ≡ 7 → c.args.s + c.args.n * k < length c.args.l.now =
+    λ k j seven. omega (arith, far c.args.n k j seven, c.requires.n_in_bounds) in
+    let bytes_fit : (k j : ℕ) → k + j ≡ 7 → Fits w64 ((c.args.s + c.args.n * k) * 2) = λ k j seven. omega (arith, in_list k j seven, c.well_formed) in
     bytes_fit 2 5 refl
 
 pub bounds-l-s-3 : goal.bounds-l-s-3
 bounds-l-s-3 c =
-    let in_list : (k j : ℕ) → k + j ≡ 7 → c.args.s + c.args.n * k < length c.args.l.now = λ k. λ j. λ seven. omega (arith, far c.args.n k j seven, c.requires.n_in_bounds) in
+    let in_list : (k j : ℕ) → k + j ≡ 7 → c.args.s + c.args.n * k < length c.args.l.now =
+    λ k j seven. omega (arith, far c.args.n k j seven, c.requires.n_in_bounds) in
     in_list 2 5 refl
 
 pub overflow_mul-n-2 : goal.overflow_mul-n-2
 overflow_mul-n-2 c =
-    let step_fits : (k j : ℕ) → k + j ≡ 7 → Fits w64 (c.args.n * k) = λ k. λ j. λ seven. omega (arith, far c.args.n k j seven, c.requires.n_in_bounds) in
+    let step_fits : (k j : ℕ) → k + j ≡ 7 → Fits w64 (c.args.n * k) = λ k j seven. omega (arith, far c.args.n k j seven, c.requires.n_in_bounds) in
     step_fits 3 4 refl
 
 pub overflow_add-s-3 : goal.overflow_add-s-3
 overflow_add-s-3 c =
-    let in_list : (k j : ℕ) → k + j ≡ 7 → c.args.s + c.args.n * k < length c.args.l.now = λ k. λ j. λ seven. omega (arith, far c.args.n k j seven, c.requires.n_in_bounds) in
-    let place-fits : (k j : ℕ) → k + j ≡ 7 → Fits w64 (c.args.s + c.args.n * k) = λ k. λ j. λ seven. omega (arith, in_list k j seven, c.well_formed) in
+    let in_list : (k j : ℕ) → k + j ≡ 7 → c.args.s + c.args.n * k < length c.args.l.now =
+    λ k j seven. omega (arith, far c.args.n k j seven, c.requires.n_in_bounds) in
+    let place-fits : (k j : ℕ) → k + j ≡ 7 → Fits w64 (c.args.s + c.args.n * k) = λ k j seven. omega (arith, in_list k j seven, c.well_formed) in
     place-fits 3 4 refl
 
 pub offset_bounds-l-s-4 : goal.offset_bounds-l-s-4
 offset_bounds-l-s-4 c =
-    let in_list : (k j : ℕ) → k + j ≡ 7 → c.args.s + c.args.n * k < length c.args.l.now = λ k. λ j. λ seven. omega (arith, far c.args.n k j seven, c.requires.n_in_bounds) in
-    let bytes_fit : (k j : ℕ) → k + j ≡ 7 → Fits w64 ((c.args.s + c.args.n * k) * 2) = λ k. λ j. λ seven. omega (arith, in_list k j seven, c.well_formed) in
+    let in_list : (k j : ℕ) → k + j ≡ 7 → c.args.s + c.args.n * k < length c.args.l.now =
+    λ k j seven. omega (arith, far c.args.n k j seven, c.requires.n_in_bounds) in
+    let bytes_fit : (k j : ℕ) → k + j ≡ 7 → Fits w64 ((c.args.s + c.args.n * k) * 2) = λ k j seven. omega (arith, in_list k j seven, c.well_formed) in
     bytes_fit 3 4 refl
 
 pub bounds-l-s-4 : goal.bounds-l-s-4
 bounds-l-s-4 c =
-    let in_list : (k j : ℕ) → k + j ≡ 7 → c.args.s + c.args.n * k < length c.args.l.now = λ k. λ j. λ seven. omega (arith, far c.args.n k j seven, c.requires.n_in_bounds) in
+    let in_list : (k j : ℕ) → k + j ≡ 7 → c.args.s + c.args.n * k < length c.args.l.now =
+    λ k j seven. omega (arith, far c.args.n k j seven, c.requires.n_in_bounds) in
     in_list 3 4 refl
 
 pub overflow_mul-n-3 : goal.overflow_mul-n-3
 overflow_mul-n-3 c =
-    let step_fits : (k j : ℕ) → k + j ≡ 7 → Fits w64 (c.args.n * k) = λ k. λ j. λ seven. omega (arith, far c.args.n k j seven, c.requires.n_in_bounds) in
+    let step_fits : (k j : ℕ) → k + j ≡ 7 → Fits w64 (c.args.n * k) = λ k j seven. omega (arith, far c.args.n k j seven, c.requires.n_in_bounds) in
     step_fits 4 3 refl
 
 pub overflow_add-s-4 : goal.overflow_add-s-4
 overflow_add-s-4 c =
-    let in_list : (k j : ℕ) → k + j ≡ 7 → c.args.s + c.args.n * k < length c.args.l.now = λ k. λ j. λ seven. omega (arith, far c.args.n k j seven, c.requires.n_in_bounds) in
-    let place-fits : (k j : ℕ) → k + j ≡ 7 → Fits w64 (c.args.s + c.args.n * k) = λ k. λ j. λ seven. omega (arith, in_list k j seven, c.well_formed) in
+    let in_list : (k j : ℕ) → k + j ≡ 7 → c.args.s + c.args.n * k < length c.args.l.now =
+    λ k j seven. omega (arith, far c.args.n k j seven, c.requires.n_in_bounds) in
+    let place-fits : (k j : ℕ) → k + j ≡ 7 → Fits w64 (c.args.s + c.args.n * k) = λ k j seven. omega (arith, in_list k j seven, c.well_formed) in
     place-fits 4 3 refl
 
 pub offset_bounds-l-s-5 : goal.offset_bounds-l-s-5
 offset_bounds-l-s-5 c =
-    let in_list : (k j : ℕ) → k + j ≡ 7 → c.args.s + c.args.n * k < length c.args.l.now = λ k. λ j. λ seven. omega (arith, far c.args.n k j seven, c.requires.n_in_bounds) in
-    let bytes_fit : (k j : ℕ) → k + j ≡ 7 → Fits w64 ((c.args.s + c.args.n * k) * 2) = λ k. λ j. λ seven. omega (arith, in_list k j seven, c.well_formed) in
+    let in_list : (k j : ℕ) → k + j ≡ 7 → c.args.s + c.args.n * k < length c.args.l.now =
+    λ k j seven. omega (arith, far c.args.n k j seven, c.requires.n_in_bounds) in
+    let bytes_fit : (k j : ℕ) → k + j ≡ 7 → Fits w64 ((c.args.s + c.args.n * k) * 2) = λ k j seven. omega (arith, in_list k j seven, c.well_formed) in
     bytes_fit 4 3 refl
 
 pub bounds-l-s-5 : goal.bounds-l-s-5
 bounds-l-s-5 c =
-    let in_list : (k j : ℕ) → k + j ≡ 7 → c.args.s + c.args.n * k < length c.args.l.now = λ k. λ j. λ seven. omega (arith, far c.args.n k j seven, c.requires.n_in_bounds) in
+    let in_list : (k j : ℕ) → k + j ≡ 7 → c.args.s + c.args.n * k < length c.args.l.now =
+    λ k j seven. omega (arith, far c.args.n k j seven, c.requires.n_in_bounds) in
     in_list 4 3 refl
 
 pub overflow_mul-n-4 : goal.overflow_mul-n-4
 overflow_mul-n-4 c =
-    let step_fits : (k j : ℕ) → k + j ≡ 7 → Fits w64 (c.args.n * k) = λ k. λ j. λ seven. omega (arith, far c.args.n k j seven, c.requires.n_in_bounds) in
+    let step_fits : (k j : ℕ) → k + j ≡ 7 → Fits w64 (c.args.n * k) = λ k j seven. omega (arith, far c.args.n k j seven, c.requires.n_in_bounds) in
     step_fits 5 2 refl
 
 pub overflow_add-s-5 : goal.overflow_add-s-5
 overflow_add-s-5 c =
-    let in_list : (k j : ℕ) → k + j ≡ 7 → c.args.s + c.args.n * k < length c.args.l.now = λ k. λ j. λ seven. omega (arith, far c.args.n k j seven, c.requires.n_in_bounds) in
-    let place-fits : (k j : ℕ) → k + j ≡ 7 → Fits w64 (c.args.s + c.args.n * k) = λ k. λ j. λ seven. omega (arith, in_list k j seven, c.well_formed) in
+    let in_list : (k j : ℕ) → k + j ≡ 7 → c.args.s + c.args.n * k < length c.args.l.now =
+    λ k j seven. omega (arith, far c.args.n k j seven, c.requires.n_in_bounds) in
+    let place-fits : (k j : ℕ) → k + j ≡ 7 → Fits w64 (c.args.s + c.args.n * k) = λ k j seven. omega (arith, in_list k j seven, c.well_formed) in
     place-fits 5 2 refl
 
 pub offset_bounds-l-s-6 : goal.offset_bounds-l-s-6
 offset_bounds-l-s-6 c =
-    let in_list : (k j : ℕ) → k + j ≡ 7 → c.args.s + c.args.n * k < length c.args.l.now = λ k. λ j. λ seven. omega (arith, far c.args.n k j seven, c.requires.n_in_bounds) in
-    let bytes_fit : (k j : ℕ) → k + j ≡ 7 → Fits w64 ((c.args.s + c.args.n * k) * 2) = λ k. λ j. λ seven. omega (arith, in_list k j seven, c.well_formed) in
+    let in_list : (k j : ℕ) → k + j ≡ 7 → c.args.s + c.args.n * k < length c.args.l.now =
+    λ k j seven. omega (arith, far c.args.n k j seven, c.requires.n_in_bounds) in
+    let bytes_fit : (k j : ℕ) → k + j ≡ 7 → Fits w64 ((c.args.s + c.args.n * k) * 2) = λ k j seven. omega (arith, in_list k j seven, c.well_formed) in
     bytes_fit 5 2 refl
 
 pub bounds-l-s-6 : goal.bounds-l-s-6
 bounds-l-s-6 c =
-    let in_list : (k j : ℕ) → k + j ≡ 7 → c.args.s + c.args.n * k < length c.args.l.now = λ k. λ j. λ seven. omega (arith, far c.args.n k j seven, c.requires.n_in_bounds) in
+    let in_list : (k j : ℕ) → k + j ≡ 7 → c.args.s + c.args.n * k < length c.args.l.now =
+    λ k j seven. omega (arith, far c.args.n k j seven, c.requires.n_in_bounds) in
     in_list 5 2 refl
 
 pub overflow_mul-n-5 : goal.overflow_mul-n-5
 overflow_mul-n-5 c =
-    let step_fits : (k j : ℕ) → k + j ≡ 7 → Fits w64 (c.args.n * k) = λ k. λ j. λ seven. omega (arith, far c.args.n k j seven, c.requires.n_in_bounds) in
+    let step_fits : (k j : ℕ) → k + j ≡ 7 → Fits w64 (c.args.n * k) = λ k j seven. omega (arith, far c.args.n k j seven, c.requires.n_in_bounds) in
     step_fits 6 1 refl
 
 pub overflow_add-s-6 : goal.overflow_add-s-6
 overflow_add-s-6 c =
-    let in_list : (k j : ℕ) → k + j ≡ 7 → c.args.s + c.args.n * k < length c.args.l.now = λ k. λ j. λ seven. omega (arith, far c.args.n k j seven, c.requires.n_in_bounds) in
-    let place-fits : (k j : ℕ) → k + j ≡ 7 → Fits w64 (c.args.s + c.args.n * k) = λ k. λ j. λ seven. omega (arith, in_list k j seven, c.well_formed) in
+    let in_list : (k j : ℕ) → k + j ≡ 7 → c.args.s + c.args.n * k < length c.args.l.now =
+    λ k j seven. omega (arith, far c.args.n k j seven, c.requires.n_in_bounds) in
+    let place-fits : (k j : ℕ) → k + j ≡ 7 → Fits w64 (c.args.s + c.args.n * k) = λ k j seven. omega (arith, in_list k j seven, c.well_formed) in
     place-fits 6 1 refl
 
 pub offset_bounds-l-s-7 : goal.offset_bounds-l-s-7
 offset_bounds-l-s-7 c =
-    let in_list : (k j : ℕ) → k + j ≡ 7 → c.args.s + c.args.n * k < length c.args.l.now = λ k. λ j. λ seven. omega (arith, far c.args.n k j seven, c.requires.n_in_bounds) in
-    let bytes_fit : (k j : ℕ) → k + j ≡ 7 → Fits w64 ((c.args.s + c.args.n * k) * 2) = λ k. λ j. λ seven. omega (arith, in_list k j seven, c.well_formed) in
+    let in_list : (k j : ℕ) → k + j ≡ 7 → c.args.s + c.args.n * k < length c.args.l.now =
+    λ k j seven. omega (arith, far c.args.n k j seven, c.requires.n_in_bounds) in
+    let bytes_fit : (k j : ℕ) → k + j ≡ 7 → Fits w64 ((c.args.s + c.args.n * k) * 2) = λ k j seven. omega (arith, in_list k j seven, c.well_formed) in
     bytes_fit 6 1 refl
 
 pub bounds-l-s-7 : goal.bounds-l-s-7
 bounds-l-s-7 c =
-    let in_list : (k j : ℕ) → k + j ≡ 7 → c.args.s + c.args.n * k < length c.args.l.now = λ k. λ j. λ seven. omega (arith, far c.args.n k j seven, c.requires.n_in_bounds) in
+    let in_list : (k j : ℕ) → k + j ≡ 7 → c.args.s + c.args.n * k < length c.args.l.now =
+    λ k j seven. omega (arith, far c.args.n k j seven, c.requires.n_in_bounds) in
     in_list 6 1 refl
 
 pub overflow_mul-n-6 : goal.overflow_mul-n-6
 overflow_mul-n-6 c =
-    let step_fits : (k j : ℕ) → k + j ≡ 7 → Fits w64 (c.args.n * k) = λ k. λ j. λ seven. omega (arith, far c.args.n k j seven, c.requires.n_in_bounds) in
+    let step_fits : (k j : ℕ) → k + j ≡ 7 → Fits w64 (c.args.n * k) = λ k j seven. omega (arith, far c.args.n k j seven, c.requires.n_in_bounds) in
     step_fits 7 0 refl
 
 pub overflow_add-s-7 : goal.overflow_add-s-7
 overflow_add-s-7 c =
-    let in_list : (k j : ℕ) → k + j ≡ 7 → c.args.s + c.args.n * k < length c.args.l.now = λ k. λ j. λ seven. omega (arith, far c.args.n k j seven, c.requires.n_in_bounds) in
-    let place-fits : (k j : ℕ) → k + j ≡ 7 → Fits w64 (c.args.s + c.args.n * k) = λ k. λ j. λ seven. omega (arith, in_list k j seven, c.well_formed) in
+    let in_list : (k j : ℕ) → k + j ≡ 7 → c.args.s + c.args.n * k < length c.args.l.now =
+    λ k j seven. omega (arith, far c.args.n k j seven, c.requires.n_in_bounds) in
+    let place-fits : (k j : ℕ) → k + j ≡ 7 → Fits w64 (c.args.s + c.args.n * k) = λ k j seven. omega (arith, in_list k j seven, c.well_formed) in
     place-fits 7 0 refl
 
 pub offset_bounds-l-s-8 : goal.offset_bounds-l-s-8
 offset_bounds-l-s-8 c =
-    let in_list : (k j : ℕ) → k + j ≡ 7 → c.args.s + c.args.n * k < length c.args.l.now = λ k. λ j. λ seven. omega (arith, far c.args.n k j seven, c.requires.n_in_bounds) in
-    let bytes_fit : (k j : ℕ) → k + j ≡ 7 → Fits w64 ((c.args.s + c.args.n * k) * 2) = λ k. λ j. λ seven. omega (arith, in_list k j seven, c.well_formed) in
+    let in_list : (k j : ℕ) → k + j ≡ 7 → c.args.s + c.args.n * k < length c.args.l.now =
+    λ k j seven. omega (arith, far c.args.n k j seven, c.requires.n_in_bounds) in
+    let bytes_fit : (k j : ℕ) → k + j ≡ 7 → Fits w64 ((c.args.s + c.args.n * k) * 2) = λ k j seven. omega (arith, in_list k j seven, c.well_formed) in
     bytes_fit 7 0 refl
 
 pub bounds-l-s-8 : goal.bounds-l-s-8
 bounds-l-s-8 c =
-    let in_list : (k j : ℕ) → k + j ≡ 7 → c.args.s + c.args.n * k < length c.args.l.now = λ k. λ j. λ seven. omega (arith, far c.args.n k j seven, c.requires.n_in_bounds) in
+    let in_list : (k j : ℕ) → k + j ≡ 7 → c.args.s + c.args.n * k < length c.args.l.now =
+    λ k j seven. omega (arith, far c.args.n k j seven, c.requires.n_in_bounds) in
     in_list 7 0 refl
 
 pub returns : goal.returns

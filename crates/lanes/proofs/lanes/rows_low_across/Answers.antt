@@ -33,7 +33,10 @@ overflow_add-at c =
 pub row_low_across-requires : goal.row_low_across-requires
 row_low_across-requires c =
     let e : c.loop-i.i ≤ c.args.h - 1 = omega (arith, c.loop-i.invariant.0) in
-    record { taps = c.requires.taps; w_value = omega (arith, mul-le-mul_right c.args.line e, mul-le-mul_right c.args.stride e, c.requires.w_value, c.loop-i.invariant.1.long) }
+    record {
+      taps = c.requires.taps;
+      w_value = omega (arith, mul-le-mul_right c.args.line e, mul-le-mul_right c.args.stride e, c.requires.w_value, c.loop-i.invariant.1.long);
+    }
 
 pub overflow_add-i : goal.overflow_add-i
 overflow_add-i c = omega arith

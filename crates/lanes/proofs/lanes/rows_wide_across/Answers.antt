@@ -38,7 +38,11 @@ row_wide_across-requires c =
     let e : c.loop-i.i ≤ c.args.h - 1 = omega (arith, c.loop-i.invariant.0) in
     let here = mul-le-mul_right c.args.line e in
     let there = mul-le-mul_right c.args.stride e in
-    record { taps = c.requires.taps; w_in_bounds = omega (arith, here, there, c.requires.w_in_bounds, c.requires.max_bound, c.loop-i.invariant.1.long); max_bound = c.requires.max_bound }
+    record {
+      taps = c.requires.taps;
+      w_in_bounds = omega (arith, here, there, c.requires.w_in_bounds, c.requires.max_bound, c.loop-i.invariant.1.long);
+      max_bound = c.requires.max_bound;
+    }
 
 pub overflow_add-i : goal.overflow_add-i
 overflow_add-i c = omega arith

@@ -30,7 +30,11 @@ pub row_wide_down-requires : goal.row_wide_down-requires
 row_wide_down-requires c =
     let e : c.loop-i.i ≤ c.args.h - 1 = omega (arith, c.loop-i.invariant.0) in
     let there = mul-le-mul_right c.args.stride e in
-    record { taps = c.requires.taps; w_in_bounds = omega (arith, there, c.requires.w_in_bounds, c.requires.max_bound, c.loop-i.invariant.1.long); max_bound = c.requires.max_bound }
+    record {
+      taps = c.requires.taps;
+      w_in_bounds = omega (arith, there, c.requires.w_in_bounds, c.requires.max_bound, c.loop-i.invariant.1.long);
+      max_bound = c.requires.max_bound;
+    }
 
 pub overflow_add-i : goal.overflow_add-i
 overflow_add-i c = omega arith

@@ -32,17 +32,49 @@ wide c = bd c.num_8x8_wide-wide.result c.num_8x8_wide-wide.ensures.1
 
 pub clamp_part-row-requires : goal.clamp_part-row-requires
 clamp_part-row-requires c =
-    rw (rd w32 (border c.before.before.before.before.before.before) tt, rd w32 (rows c.before.before.before.before.before.before) tt, rd w32 (high c.before.before.before.before.before) tt, rd w32 (row c.before.before.before.before.before.before) tt)
-    (record { border_bound = ((border c.before.before.before.before.before.before).le, (rows c.before.before.before.before.before.before).le); n_bound = ((high c.before.before.before.before.before).le, (row c.before.before.before.before.before.before).le) })
+    rw (
+      rd w32 (border c.before.before.before.before.before.before) tt,
+      rd w32 (rows c.before.before.before.before.before.before) tt,
+      rd w32 (high c.before.before.before.before.before) tt,
+      rd w32 (row c.before.before.before.before.before.before) tt,
+    )
+    (record {
+      border_bound = ((border c.before.before.before.before.before.before).le, (rows c.before.before.before.before.before.before).le);
+      n_bound = ((high c.before.before.before.before.before).le, (row c.before.before.before.before.before.before).le);
+    })
 
 pub clamp_part-col-requires : goal.clamp_part-col-requires
 clamp_part-col-requires c =
-    rw (rd w32 (border c.before.before.before.before.before.before.before.before.before.before) tt, rd w32 (cols c.before.before.before.before.before.before.before.before.before.before) tt, rd w32 (wide c.before.before.before.before.before.before.before.before) tt, rd w32 (col c.before.before.before.before.before.before.before.before.before.before) tt)
-    (record { border_bound = ((border c.before.before.before.before.before.before.before.before.before.before).le, (cols c.before.before.before.before.before.before.before.before.before.before).le); n_bound = ((wide c.before.before.before.before.before.before.before.before).le, (col c.before.before.before.before.before.before.before.before.before.before).le) })
+    rw (
+      rd w32 (border c.before.before.before.before.before.before.before.before.before.before) tt,
+      rd w32 (cols c.before.before.before.before.before.before.before.before.before.before) tt,
+      rd w32 (wide c.before.before.before.before.before.before.before.before) tt,
+      rd w32 (col c.before.before.before.before.before.before.before.before.before.before) tt,
+    )
+    (record {
+      border_bound = (
+        (border c.before.before.before.before.before.before.before.before.before.before).le,
+        (cols c.before.before.before.before.before.before.before.before.before.before).le,
+      );
+      n_bound = (
+        (wide c.before.before.before.before.before.before.before.before).le,
+        (col c.before.before.before.before.before.before.before.before.before.before).le,
+      );
+    })
 
 pub returns : goal.returns
 unfolding clamp_ref
 returns c =
-    let down = rw (rd w32 (border c.before.before.before.before.before.before.before.before.before.before) tt, rd w32 (rows c.before.before.before.before.before.before.before.before.before.before) tt, rd w32 (high c.before.before.before.before.before.before.before.before.before) tt, rd w32 (row c.before.before.before.before.before.before.before.before.before.before) tt) at c.clamp_part-row.ensures in
-    let across = rw (rd w32 (border c.before.before.before.before.before.before.before.before.before.before) tt, rd w32 (cols c.before.before.before.before.before.before.before.before.before.before) tt, rd w32 (wide c.before.before.before.before.before.before.before.before) tt, rd w32 (col c.before.before.before.before.before.before.before.before.before.before) tt) at c.clamp_part-col.ensures in
+    let down = rw (
+      rd w32 (border c.before.before.before.before.before.before.before.before.before.before) tt,
+      rd w32 (rows c.before.before.before.before.before.before.before.before.before.before) tt,
+      rd w32 (high c.before.before.before.before.before.before.before.before.before) tt,
+      rd w32 (row c.before.before.before.before.before.before.before.before.before.before) tt,
+    ) at c.clamp_part-row.ensures in
+    let across = rw (
+      rd w32 (border c.before.before.before.before.before.before.before.before.before.before) tt,
+      rd w32 (cols c.before.before.before.before.before.before.before.before.before.before) tt,
+      rd w32 (wide c.before.before.before.before.before.before.before.before) tt,
+      rd w32 (col c.before.before.before.before.before.before.before.before.before.before) tt,
+    ) at c.clamp_part-col.ensures in
     rw (← c.num_8x8_high-high.ensures.0, ← c.num_8x8_wide-wide.ensures.0, down, across)

@@ -28,7 +28,8 @@ pub returns-then-no-ne0 : goal.returns-then-no-ne0
 unfolding find_mv_refs
 returns-then-no-ne0 c =
     let lent : Tables = let a = c.args in tables a.modes.now a.frames.now a.mvs.now a.subs.now a.prev_frames.now a.prev_mvs.now in
-    let answer-is : c.search_refusal-no.result ≡ answer (search_rows lent c.args.geometry c.args.target c.args.block c.args.use_prev) = let block = c.between.ensures ∙ ap (between (negsuc 0) (pos 3)) (to_z-of_z c.ranges.block) in
+    let answer-is : c.search_refusal-no.result ≡ answer (search_rows lent c.args.geometry c.args.target c.args.block c.args.use_prev) = let block =
+    c.between.ensures ∙ ap (between (negsuc 0) (pos 3)) (to_z-of_z c.ranges.block) in
     c.search_refusal-no.ensures ∙ rw (to_z-of_z c.ranges.target, block) in
     let e = sym answer-is in
     rw (e, ne_eqb _ _ c.if-no-ne0.true, c.zero_mv-zero.ensures)
@@ -37,7 +38,8 @@ pub search-found-requires : goal.search-found-requires
 search-found-requires c =
     let lent : Tables = let a = c.args in tables a.modes.now a.frames.now a.mvs.now a.subs.now a.prev_frames.now a.prev_mvs.now in
     let right : Bool = leb c.args.geometry.mi_size 12 && between (negsuc 0) (pos 3) c.args.block in
-    let answer-is : c.search_refusal-no.result ≡ answer (search_rows lent c.args.geometry c.args.target c.args.block c.args.use_prev) = let block = c.between.ensures ∙ ap (between (negsuc 0) (pos 3)) (to_z-of_z c.ranges.block) in
+    let answer-is : c.search_refusal-no.result ≡ answer (search_rows lent c.args.geometry c.args.target c.args.block c.args.use_prev) = let block =
+    c.between.ensures ∙ ap (between (negsuc 0) (pos 3)) (to_z-of_z c.ranges.block) in
     c.search_refusal-no.ensures ∙ rw (to_z-of_z c.ranges.target, block) in
     let zero : answer (search_rows lent c.args.geometry c.args.target c.args.block c.args.use_prev) ≡ 0 = sym answer-is ∙ c.if-no-ne0.false in
     let ok : SearchOk lent c.args.geometry c.args.target right c.args.use_prev = search_ok lent c.args.geometry c.args.target right c.args.use_prev zero in
@@ -49,7 +51,8 @@ pub clamp_ref-first-requires : goal.clamp_ref-first-requires
 clamp_ref-first-requires c =
     let lent : Tables = let a = c.args in tables a.modes.now a.frames.now a.mvs.now a.subs.now a.prev_frames.now a.prev_mvs.now in
     let right : Bool = leb c.args.geometry.mi_size 12 && between (negsuc 0) (pos 3) c.args.block in
-    let answer-is : c.search_refusal-no.result ≡ answer (search_rows lent c.args.geometry c.args.target c.args.block c.args.use_prev) = let block = c.between.ensures ∙ ap (between (negsuc 0) (pos 3)) (to_z-of_z c.ranges.block) in
+    let answer-is : c.search_refusal-no.result ≡ answer (search_rows lent c.args.geometry c.args.target c.args.block c.args.use_prev) = let block =
+    c.between.ensures ∙ ap (between (negsuc 0) (pos 3)) (to_z-of_z c.ranges.block) in
     c.search_refusal-no.ensures ∙ rw (to_z-of_z c.ranges.target, block) in
     let zero : answer (search_rows lent c.args.geometry c.args.target c.args.block c.args.use_prev) ≡ 0 = sym answer-is ∙ c.if-no-ne0.false in
     let ok : SearchOk lent c.args.geometry c.args.target right c.args.use_prev = search_ok lent c.args.geometry c.args.target right c.args.use_prev zero in
@@ -60,7 +63,8 @@ pub clamp_ref-second-requires : goal.clamp_ref-second-requires
 clamp_ref-second-requires c =
     let lent : Tables = let a = c.args in tables a.modes.now a.frames.now a.mvs.now a.subs.now a.prev_frames.now a.prev_mvs.now in
     let right : Bool = leb c.args.geometry.mi_size 12 && between (negsuc 0) (pos 3) c.args.block in
-    let answer-is : c.search_refusal-no.result ≡ answer (search_rows lent c.args.geometry c.args.target c.args.block c.args.use_prev) = let block = c.between.ensures ∙ ap (between (negsuc 0) (pos 3)) (to_z-of_z c.ranges.block) in
+    let answer-is : c.search_refusal-no.result ≡ answer (search_rows lent c.args.geometry c.args.target c.args.block c.args.use_prev) = let block =
+    c.between.ensures ∙ ap (between (negsuc 0) (pos 3)) (to_z-of_z c.ranges.block) in
     c.search_refusal-no.ensures ∙ rw (to_z-of_z c.ranges.target, block) in
     let zero : answer (search_rows lent c.args.geometry c.args.target c.args.block c.args.use_prev) ≡ 0 = sym answer-is ∙ c.if-no-ne0.false in
     let ok : SearchOk lent c.args.geometry c.args.target right c.args.use_prev = search_ok lent c.args.geometry c.args.target right c.args.use_prev zero in
@@ -71,7 +75,8 @@ pub returns : goal.returns
 unfolding find_mv_refs found
 returns c =
     let lent : Tables = let a = c.args in tables a.modes.now a.frames.now a.mvs.now a.subs.now a.prev_frames.now a.prev_mvs.now in
-    let answer-is : c.search_refusal-no.result ≡ answer (search_rows lent c.args.geometry c.args.target c.args.block c.args.use_prev) = let block = c.between.ensures ∙ ap (between (negsuc 0) (pos 3)) (to_z-of_z c.ranges.block) in
+    let answer-is : c.search_refusal-no.result ≡ answer (search_rows lent c.args.geometry c.args.target c.args.block c.args.use_prev) = let block =
+    c.between.ensures ∙ ap (between (negsuc 0) (pos 3)) (to_z-of_z c.ranges.block) in
     c.search_refusal-no.ensures ∙ rw (to_z-of_z c.ranges.target, block) in
     let zero : answer (search_rows lent c.args.geometry c.args.target c.args.block c.args.use_prev) ≡ 0 = sym answer-is ∙ c.if-no-ne0.false in
     let is = rw (to_z-of_z c.ranges.target, to_z-of_z c.ranges.block) at c.search-found.ensures in

@@ -11,10 +11,15 @@ use Rattle.pair_passes.proofs.both.down_even.Goals as goal
 
 pub rows_low-requires : goal.rows_low-requires
 rows_low-requires c =
-    let in-out : let a = c.args in (a.h - 1) * a.stride + a.w ≤ length a.out.now = let a = c.args in holds_row a.h a.stride a.w (length a.out.now) (a.h - 1) c.requires.out_value (omega (arith, c.requires.w_bound)) in
+    let in-out : let a = c.args in (a.h - 1) * a.stride + a.w ≤ length a.out.now = let a = c.args in
+    holds_row a.h a.stride a.w (length a.out.now) (a.h - 1) c.requires.out_value (omega (arith, c.requires.w_bound)) in
     let a = c.args in
     let e = c.phase_of.ensures in
-    record { p_bound = omega (arith, c.requires.w_bound, e.1); n_in_bounds = omega (arith, c.requires.w_bound, in-out); low = low_even a.max a.room.now a.w a.h c.requires.held_room }
+    record {
+      p_bound = omega (arith, c.requires.w_bound, e.1);
+      n_in_bounds = omega (arith, c.requires.w_bound, in-out);
+      low = low_even a.max a.room.now a.w a.h c.requires.held_room;
+    }
 
 pub returns : goal.returns
 returns c =

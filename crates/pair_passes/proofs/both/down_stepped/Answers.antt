@@ -33,18 +33,24 @@ overflow_mul-b c = omega (arith, far c)
 pub overflow_mul-r : goal.overflow_mul-r
 overflow_mul-r c =
     let in-out : let a = c.args in
-    c.loop-r.r * a.stride + a.w ≤ length a.out.now = let a = c.args in holds_row a.h a.stride a.w (length a.out.now) c.loop-r.r c.requires.out_value (omega arith) in
+    c.loop-r.r * a.stride + a.w ≤ length a.out.now = let a = c.args in
+    holds_row a.h a.stride a.w (length a.out.now) c.loop-r.r c.requires.out_value (omega arith) in
     omega (arith, in-out)
 
 pub rows_low-requires : goal.rows_low-requires
 rows_low-requires c =
     let far : c.args.step * c.loop-r.r ≤ 32 * 63 = mul-le-mul {n₂ = 32} {m₂ = 63} (omega arith) (omega arith) in
     let in-out : let a = c.args in
-    c.loop-r.r * a.stride + a.w ≤ length a.out.now = let a = c.args in holds_row a.h a.stride a.w (length a.out.now) c.loop-r.r c.requires.out_value (omega arith) in
+    c.loop-r.r * a.stride + a.w ≤ length a.out.now = let a = c.args in
+    holds_row a.h a.stride a.w (length a.out.now) c.loop-r.r c.requires.out_value (omega arith) in
     let a = c.args in
     let r = c.loop-r in
     let low = low_row a.max a.room.now a.w a.start a.step r.r a.h c.requires.held_room (omega arith) in
-    record { p_bound = omega (arith, c.phase_of.ensures.1, c.requires.start_bound); n_in_bounds = omega (arith, far, in-out, c.requires.start_bound, r.invariant.1.long); low = low }
+    record {
+      p_bound = omega (arith, c.phase_of.ensures.1, c.requires.start_bound);
+      n_in_bounds = omega (arith, far, in-out, c.requires.start_bound, r.invariant.1.long);
+      low = low;
+    }
 
 pub overflow_add-r : goal.overflow_add-r
 overflow_add-r c = omega arith

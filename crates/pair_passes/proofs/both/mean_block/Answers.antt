@@ -18,7 +18,11 @@ use Rattle.pair_passes.proofs.both.mean_block.Goals as goal
 
 pub pass_pairs-requires : goal.pass_pairs-requires
 pass_pairs-requires c =
-    record { start_bound = omega (arith, c.requires.sx_bound, c.requires.pw_nonzero, c.requires.max_bound); lower_value = c.requires.lower_value; room_value = holds_long _ _ _ _ (omega (arith, c.requires.sx_bound, c.requires.pw_nonzero)) }
+    record {
+      start_bound = omega (arith, c.requires.sx_bound, c.requires.pw_nonzero, c.requires.max_bound);
+      lower_value = c.requires.lower_value;
+      room_value = holds_long _ _ _ _ (omega (arith, c.requires.sx_bound, c.requires.pw_nonzero));
+    }
 
 pub returns-then-sy-stepy : goal.returns-then-sy-stepy
 unfolding mean_with mean_of
@@ -37,39 +41,53 @@ returns-then-sy-stepy c =
 
 pub overflow_mul-n : goal.overflow_mul-n
 overflow_mul-n c =
-    let far : c.args.stepy * (c.args.h - 1) ≤ 32 * 63 = mul-le-mul {n₂ = 32} {m₂ = 63} (omega (arith, c.requires.sx_bound)) (omega (arith, c.requires.sx_bound)) in
+    let far : c.args.stepy * (c.args.h - 1) ≤ 32 * 63 =
+    mul-le-mul {n₂ = 32} {m₂ = 63} (omega (arith, c.requires.sx_bound)) (omega (arith, c.requires.sx_bound)) in
     omega (arith, far)
 
 pub overflow_add-n : goal.overflow_add-n
 overflow_add-n c =
-    let far : c.args.stepy * (c.args.h - 1) ≤ 32 * 63 = mul-le-mul {n₂ = 32} {m₂ = 63} (omega (arith, c.requires.sx_bound)) (omega (arith, c.requires.sx_bound)) in
+    let far : c.args.stepy * (c.args.h - 1) ≤ 32 * 63 =
+    mul-le-mul {n₂ = 32} {m₂ = 63} (omega (arith, c.requires.sx_bound)) (omega (arith, c.requires.sx_bound)) in
     omega (arith, far)
 
 pub overflow_add-n-2 : goal.overflow_add-n-2
 overflow_add-n-2 c =
-    let far : c.args.stepy * (c.args.h - 1) ≤ 32 * 63 = mul-le-mul {n₂ = 32} {m₂ = 63} (omega (arith, c.requires.sx_bound)) (omega (arith, c.requires.sx_bound)) in
+    let far : c.args.stepy * (c.args.h - 1) ≤ 32 * 63 =
+    mul-le-mul {n₂ = 32} {m₂ = 63} (omega (arith, c.requires.sx_bound)) (omega (arith, c.requires.sx_bound)) in
     omega (arith, far)
 
 pub pass_pairs-requires-2 : goal.pass_pairs-requires-2
 pass_pairs-requires-2 c =
-    let far : c.args.stepy * (c.args.h - 1) ≤ 32 * 63 = mul-le-mul {n₂ = 32} {m₂ = 63} (omega (arith, c.requires.sx_bound)) (omega (arith, c.requires.sx_bound)) in
-    record { start_bound = omega (arith, c.requires.sx_bound, c.requires.pw_nonzero, c.requires.max_bound, far); lower_value = c.requires.lower_value; room_value = holds_long _ _ _ _ (omega (arith, c.requires.sx_bound, c.requires.pw_nonzero, far)) }
+    let far : c.args.stepy * (c.args.h - 1) ≤ 32 * 63 =
+    mul-le-mul {n₂ = 32} {m₂ = 63} (omega (arith, c.requires.sx_bound)) (omega (arith, c.requires.sx_bound)) in
+    record {
+      start_bound = omega (arith, c.requires.sx_bound, c.requires.pw_nonzero, c.requires.max_bound, far);
+      lower_value = c.requires.lower_value;
+      room_value = holds_long _ _ _ _ (omega (arith, c.requires.sx_bound, c.requires.pw_nonzero, far));
+    }
 
 pub pass_down_mean-requires : goal.pass_down_mean-requires
 pass_down_mean-requires c =
-    let far : c.args.stepy * (c.args.h - 1) ≤ 32 * 63 = mul-le-mul {n₂ = 32} {m₂ = 63} (omega (arith, c.requires.sx_bound)) (omega (arith, c.requires.sx_bound)) in
+    let far : c.args.stepy * (c.args.h - 1) ≤ 32 * 63 =
+    mul-le-mul {n₂ = 32} {m₂ = 63} (omega (arith, c.requires.sx_bound)) (omega (arith, c.requires.sx_bound)) in
     let plane : Lent = let a = c.args in view a.pw a.ph a.stride a.k a.upper.now a.lower.now in
     let long = ap length c.pass_pairs-2.ensures ∙ length-paint _ _ _ _ _ in
     let a = c.args in
     let n = (a.sy % 16 + a.stepy * (a.h - 1)) / 16 + 2 in
     let held = room_held a.max (tap 3) plane a.sx a.stepx (a.sy / 16 + 3) a.w n a.room.now
     (omega (arith, c.requires.sx_bound)) (omega (arith, c.requires.sx_bound, c.requires.pw_nonzero, far)) in
-    record { start_bound = omega (arith, c.requires.sx_bound, c.requires.pw_nonzero, c.requires.max_bound, long); out_value = c.requires.out_value; held_room = rw c.pass_pairs-2.ensures held }
+    record {
+      start_bound = omega (arith, c.requires.sx_bound, c.requires.pw_nonzero, c.requires.max_bound, long);
+      out_value = c.requires.out_value;
+      held_room = rw c.pass_pairs-2.ensures held;
+    }
 
 pub returns : goal.returns
 unfolding mean_with mean_of
 returns c =
-    let far : c.args.stepy * (c.args.h - 1) ≤ 32 * 63 = mul-le-mul {n₂ = 32} {m₂ = 63} (omega (arith, c.requires.sx_bound)) (omega (arith, c.requires.sx_bound)) in
+    let far : c.args.stepy * (c.args.h - 1) ≤ 32 * 63 =
+    mul-le-mul {n₂ = 32} {m₂ = 63} (omega (arith, c.requires.sx_bound)) (omega (arith, c.requires.sx_bound)) in
     let plane : Lent = let a = c.args in view a.pw a.ph a.stride a.k a.upper.now a.lower.now in
     let a = c.args in
     rw c.pass_pairs-2.ensures at c.pass_down_mean.ensures

@@ -11,7 +11,11 @@ use Rattle.pair_passes.proofs.both.one_block.Goals as goal
 
 pub pass_pairs-requires : goal.pass_pairs-requires
 pass_pairs-requires c =
-    record { start_bound = omega (arith, c.requires.sx_bound, c.requires.pw_nonzero, c.requires.max_bound); lower_value = c.requires.lower_value; room_value = c.requires.out_value }
+    record {
+      start_bound = omega (arith, c.requires.sx_bound, c.requires.pw_nonzero, c.requires.max_bound);
+      lower_value = c.requires.lower_value;
+      room_value = c.requires.out_value;
+    }
 
 pub returns-then-sy-stepy : goal.returns-then-sy-stepy
 returns-then-sy-stepy c =
@@ -29,7 +33,13 @@ whole_columns-requires c =
     let whole : let a = c.args in (a.sx % 16 ≡ 0) × (a.stepx ≡ 16) × (a.stepy ≡ 16) = let t = and_both _ _ c.if-sx-stepx.true in
     let u = and_both _ _ t.0 in
     (eqb-true _ _ u.0, eqb-true _ _ u.1, eqb-true _ _ t.1) in
-    record { sx_bound = omega (arith, c.requires.sx_bound, whole.0); pw_nonzero = c.requires.pw_nonzero; lower_value = c.requires.lower_value; out_value = c.requires.out_value; max_bound = c.requires.max_bound }
+    record {
+      sx_bound = omega (arith, c.requires.sx_bound, whole.0);
+      pw_nonzero = c.requires.pw_nonzero;
+      lower_value = c.requires.lower_value;
+      out_value = c.requires.out_value;
+      max_bound = c.requires.max_bound;
+    }
 
 pub returns-then-sx-stepx : goal.returns-then-sx-stepx
 returns-then-sx-stepx c =

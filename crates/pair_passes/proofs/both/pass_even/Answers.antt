@@ -37,23 +37,29 @@ overflow_sub-e c = (from c).1
 pub overflow_mul-row_in : goal.overflow_mul-row_in
 overflow_mul-row_in c =
     let plane : Lent = let a = c.args in view a.pw a.ph a.stride a.k a.upper.now a.lower.now in
-    let near : (e : ℕ) → let a = c.args in e ≤ a.y0 - 200003 → e * a.stride ≤ 200000 * 131072 = λ e. λ h. mul-le-mul {n₂ = 200000} {m₂ = 131072} (omega (arith, h, c.requires.start_bound)) (fits_says plane c.requires.lower_value).near in
+    let near : (e : ℕ) → let a = c.args in
+    e ≤ a.y0 - 200003 → e * a.stride ≤ 200000 * 131072 = λ e h. mul-le-mul {n₂ = 200000} {m₂ = 131072} (omega (arith, h, c.requires.start_bound))
+    (fits_says plane c.requires.lower_value).near in
     let small : c.row_in.result * c.args.stride ≤ 200000 * 131072 = near c.row_in.result (row_in_le _ _ _ c.row_in.ensures) in
     omega (arith, small)
 
 pub overflow_add-row_in : goal.overflow_add-row_in
 overflow_add-row_in c =
     let plane : Lent = let a = c.args in view a.pw a.ph a.stride a.k a.upper.now a.lower.now in
-    let near : (e : ℕ) → let a = c.args in e ≤ a.y0 - 200003 → e * a.stride ≤ 200000 * 131072 = λ e. λ h. mul-le-mul {n₂ = 200000} {m₂ = 131072} (omega (arith, h, c.requires.start_bound)) (fits_says plane c.requires.lower_value).near in
+    let near : (e : ℕ) → let a = c.args in
+    e ≤ a.y0 - 200003 → e * a.stride ≤ 200000 * 131072 = λ e h. mul-le-mul {n₂ = 200000} {m₂ = 131072} (omega (arith, h, c.requires.start_bound))
+    (fits_says plane c.requires.lower_value).near in
     let small : c.row_in.result * c.args.stride ≤ 200000 * 131072 = near c.row_in.result (row_in_le _ _ _ c.row_in.ensures) in
     omega (arith, small, c.requires.start_bound)
 
 pub rows_any-requires : goal.rows_any-requires
 rows_any-requires c =
     let plane : Lent = let a = c.args in view a.pw a.ph a.stride a.k a.upper.now a.lower.now in
-    let in-x : let a = c.args in unheld (a.start / 16 + 3) (a.w + 1) a.pw ≡ true = sym c.unheld.ensures ∙ (and_both c.unheld.result c.unheld-2.result c.if-unheld.true).0 in
+    let in-x : let a = c.args in
+    unheld (a.start / 16 + 3) (a.w + 1) a.pw ≡ true = sym c.unheld.ensures ∙ (and_both c.unheld.result c.unheld-2.result c.if-unheld.true).0 in
     let in-y : let a = c.args in unheld a.y0 a.n a.ph ≡ true = sym c.unheld-2.ensures ∙ (and_both c.unheld.result c.unheld-2.result c.if-unheld.true).1 in
-    let in_room : let a = c.args in (a.n - 1) * a.rs + a.w ≤ length a.room.now = let a = c.args in holds_row a.n a.rs a.w (length a.room.now) (a.n - 1) c.requires.room_value (omega (arith, c.requires.start_bound)) in
+    let in_room : let a = c.args in (a.n - 1) * a.rs + a.w ≤ length a.room.now = let a = c.args in
+    holds_row a.n a.rs a.w (length a.room.now) (a.n - 1) c.requires.room_value (omega (arith, c.requires.start_bound)) in
     let a = c.args in
     let all = sym c.whole.ensures ∙ c.if-whole.true in
     let fit = band_fits a.max plane (a.start / 16 + 3) a.y0 (a.w + 1) a.n in-x in-y c.requires.lower_value c.band_of-l.result.now
@@ -64,7 +70,8 @@ rows_any-requires c =
 pub returns-then-whole : goal.returns-then-whole
 returns-then-whole c =
     let plane : Lent = let a = c.args in view a.pw a.ph a.stride a.k a.upper.now a.lower.now in
-    let in-x : let a = c.args in unheld (a.start / 16 + 3) (a.w + 1) a.pw ≡ true = sym c.unheld.ensures ∙ (and_both c.unheld.result c.unheld-2.result c.if-unheld.true).0 in
+    let in-x : let a = c.args in
+    unheld (a.start / 16 + 3) (a.w + 1) a.pw ≡ true = sym c.unheld.ensures ∙ (and_both c.unheld.result c.unheld-2.result c.if-unheld.true).0 in
     let in-y : let a = c.args in unheld a.y0 a.n a.ph ≡ true = sym c.unheld-2.ensures ∙ (and_both c.unheld.result c.unheld-2.result c.if-unheld.true).1 in
     let a = c.args in
     let all = sym c.whole.ensures ∙ c.if-whole.true in

@@ -45,7 +45,11 @@ rows_any-requires c =
     let in_room : let a = c.args in let l = c.loop-done in
     l.done * a.rs + (c.fewer-m.result - 1) * a.rs + a.w ≤ length a.room.now = let a = c.args in
     chunk_fits a.n a.rs a.w (length a.room.now) c.loop-done.done c.fewer-m.result c.requires.room_value (omega arith) c.fewer-m.ensures in
-    let l = c.loop-done in record { p_bound = omega (arith, c.requires.start_bound, c.fewer-m.ensures, c.phase_of-p.ensures.1); w_in_bounds = (omega (arith, c.requires.start_bound, c.fewer-m.ensures, c.lines-in-loop-done-1.given), omega (arith, in_room, l.invariant.2.long)) }
+    let l = c.loop-done in
+    record {
+      p_bound = omega (arith, c.requires.start_bound, c.fewer-m.ensures, c.phase_of-p.ensures.1);
+      w_in_bounds = (omega (arith, c.requires.start_bound, c.fewer-m.ensures, c.lines-in-loop-done-1.given), omega (arith, in_room, l.invariant.2.long));
+    }
 
 pub overflow_add-done : goal.overflow_add-done
 overflow_add-done c = omega arith

@@ -45,7 +45,8 @@ overflow_sub-e c = (from c).1
 pub overflow_mul-s : goal.overflow_mul-s
 overflow_mul-s c =
     let plane : Lent = let a = c.args in view a.pw a.ph a.stride a.k a.upper.now a.lower.now in
-    let near : (e : ℕ) → e ≤ 200000 → e * c.args.stride ≤ 200000 * 131072 = λ e. λ h. mul-le-mul {n₂ = 200000} {m₂ = 131072} h (fits_says plane c.requires.lower_value).near in
+    let near : (e : ℕ) → e ≤ 200000 → e * c.args.stride ≤ 200000 * 131072 =
+    λ e h. mul-le-mul {n₂ = 200000} {m₂ = 131072} h (fits_says plane c.requires.lower_value).near in
     let small : c.row_in.result * c.args.stride ≤ 200000 * 131072 = let a = c.args in
     let le = row_in_le c.row_in.result (a.sy / 16 + 3 - 200003) a.k c.row_in.ensures in
     near c.row_in.result (omega (arith, le, c.requires.sx_bound)) in
@@ -53,8 +54,10 @@ overflow_mul-s c =
 
 pub overflow_sub-s : goal.overflow_sub-s
 overflow_sub-s c =
-    let in-x : let a = c.args in unheld (a.sx / 16 + 3) a.w a.pw ≡ true = sym c.unheld.ensures ∙ (and_both c.unheld.result c.unheld-2.result c.if-unheld.true).0 in
-    let in-y : let a = c.args in unheld (a.sy / 16 + 3) (a.h + 1) a.ph ≡ true = sym c.unheld-2.ensures ∙ (and_both c.unheld.result c.unheld-2.result c.if-unheld.true).1 in
+    let in-x : let a = c.args in
+    unheld (a.sx / 16 + 3) a.w a.pw ≡ true = sym c.unheld.ensures ∙ (and_both c.unheld.result c.unheld-2.result c.if-unheld.true).0 in
+    let in-y : let a = c.args in
+    unheld (a.sy / 16 + 3) (a.h + 1) a.ph ≡ true = sym c.unheld-2.ensures ∙ (and_both c.unheld.result c.unheld-2.result c.if-unheld.true).1 in
     let from : let a = c.args in (200003 ≤ a.sx / 16 + 3) × (200003 ≤ a.sy / 16 + 3) = let a = c.args in
     ((unheld_says (a.sx / 16 + 3) a.w a.pw in-x).0, (unheld_says (a.sy / 16 + 3) (a.h + 1) a.ph in-y).0) in
     from.0
@@ -62,7 +65,8 @@ overflow_sub-s c =
 pub overflow_add-s : goal.overflow_add-s
 overflow_add-s c =
     let plane : Lent = let a = c.args in view a.pw a.ph a.stride a.k a.upper.now a.lower.now in
-    let near : (e : ℕ) → e ≤ 200000 → e * c.args.stride ≤ 200000 * 131072 = λ e. λ h. mul-le-mul {n₂ = 200000} {m₂ = 131072} h (fits_says plane c.requires.lower_value).near in
+    let near : (e : ℕ) → e ≤ 200000 → e * c.args.stride ≤ 200000 * 131072 =
+    λ e h. mul-le-mul {n₂ = 200000} {m₂ = 131072} h (fits_says plane c.requires.lower_value).near in
     let small : c.row_in.result * c.args.stride ≤ 200000 * 131072 = let a = c.args in
     let le = row_in_le c.row_in.result (a.sy / 16 + 3 - 200003) a.k c.row_in.ensures in
     near c.row_in.result (omega (arith, le, c.requires.sx_bound)) in
@@ -71,8 +75,10 @@ overflow_add-s c =
 pub rows_are_low-requires : goal.rows_are_low-requires
 rows_are_low-requires c =
     let plane : Lent = let a = c.args in view a.pw a.ph a.stride a.k a.upper.now a.lower.now in
-    let in-x : let a = c.args in unheld (a.sx / 16 + 3) a.w a.pw ≡ true = sym c.unheld.ensures ∙ (and_both c.unheld.result c.unheld-2.result c.if-unheld.true).0 in
-    let in-y : let a = c.args in unheld (a.sy / 16 + 3) (a.h + 1) a.ph ≡ true = sym c.unheld-2.ensures ∙ (and_both c.unheld.result c.unheld-2.result c.if-unheld.true).1 in
+    let in-x : let a = c.args in
+    unheld (a.sx / 16 + 3) a.w a.pw ≡ true = sym c.unheld.ensures ∙ (and_both c.unheld.result c.unheld-2.result c.if-unheld.true).0 in
+    let in-y : let a = c.args in
+    unheld (a.sy / 16 + 3) (a.h + 1) a.ph ≡ true = sym c.unheld-2.ensures ∙ (and_both c.unheld.result c.unheld-2.result c.if-unheld.true).1 in
     let band : let a = c.args in
     Rows (a.h + 1) a.stride a.w (c.row_in.result * a.stride + (a.sx / 16 + 3 - 200003)) (length c.band_of-l.result.now) = let a = c.args in
     let all = sym c.whole.ensures ∙ c.if-whole.true in
@@ -85,8 +91,10 @@ rows_are_low-requires c =
 pub rows_low-requires : goal.rows_low-requires
 rows_low-requires c =
     let plane : Lent = let a = c.args in view a.pw a.ph a.stride a.k a.upper.now a.lower.now in
-    let in-x : let a = c.args in unheld (a.sx / 16 + 3) a.w a.pw ≡ true = sym c.unheld.ensures ∙ (and_both c.unheld.result c.unheld-2.result c.if-unheld.true).0 in
-    let in-y : let a = c.args in unheld (a.sy / 16 + 3) (a.h + 1) a.ph ≡ true = sym c.unheld-2.ensures ∙ (and_both c.unheld.result c.unheld-2.result c.if-unheld.true).1 in
+    let in-x : let a = c.args in
+    unheld (a.sx / 16 + 3) a.w a.pw ≡ true = sym c.unheld.ensures ∙ (and_both c.unheld.result c.unheld-2.result c.if-unheld.true).0 in
+    let in-y : let a = c.args in
+    unheld (a.sy / 16 + 3) (a.h + 1) a.ph ≡ true = sym c.unheld-2.ensures ∙ (and_both c.unheld.result c.unheld-2.result c.if-unheld.true).1 in
     let band : let a = c.args in
     Rows (a.h + 1) a.stride a.w (c.row_in.result * a.stride + (a.sx / 16 + 3 - 200003)) (length c.band_of-l.result.now) = let a = c.args in
     let all = sym c.whole.ensures ∙ c.if-whole.true in
@@ -98,13 +106,20 @@ rows_low-requires c =
     let in-out : let a = c.args in (a.h - 1) * a.ostride + a.w ≤ length a.out.now = let a = c.args in
     holds_row a.h a.ostride a.w (length a.out.now) (a.h - 1) c.requires.out_value (omega (arith, c.requires.sx_bound)) in
     let a = c.args in
-    let fit = band.ends a.h (omega arith) in record { p_bound = omega (arith, c.phase_of.ensures.1, c.requires.max_bound); n_in_bounds = (omega (arith, fit, one_less a.h a.stride c.requires.sx_bound.5), omega (arith, in-out)); low = low }
+    let fit = band.ends a.h (omega arith) in
+    record {
+      p_bound = omega (arith, c.phase_of.ensures.1, c.requires.max_bound);
+      n_in_bounds = (omega (arith, fit, one_less a.h a.stride c.requires.sx_bound.5), omega (arith, in-out));
+      low = low;
+    }
 
 pub returns-then-rows_are_low : goal.returns-then-rows_are_low
 returns-then-rows_are_low c =
     let plane : Lent = let a = c.args in view a.pw a.ph a.stride a.k a.upper.now a.lower.now in
-    let in-x : let a = c.args in unheld (a.sx / 16 + 3) a.w a.pw ≡ true = sym c.unheld.ensures ∙ (and_both c.unheld.result c.unheld-2.result c.if-unheld.true).0 in
-    let in-y : let a = c.args in unheld (a.sy / 16 + 3) (a.h + 1) a.ph ≡ true = sym c.unheld-2.ensures ∙ (and_both c.unheld.result c.unheld-2.result c.if-unheld.true).1 in
+    let in-x : let a = c.args in
+    unheld (a.sx / 16 + 3) a.w a.pw ≡ true = sym c.unheld.ensures ∙ (and_both c.unheld.result c.unheld-2.result c.if-unheld.true).0 in
+    let in-y : let a = c.args in
+    unheld (a.sy / 16 + 3) (a.h + 1) a.ph ≡ true = sym c.unheld-2.ensures ∙ (and_both c.unheld.result c.unheld-2.result c.if-unheld.true).1 in
     let low : let a = c.args in
     Low a.max c.band_of-l.result.now a.stride (c.row_in.result * a.stride + (a.sx / 16 + 3 - 200003)) a.stride a.w a.h = let a = c.args in
     low_down a.max _ _ a.stride a.w a.h (c.rows_are_low.ensures c.if-rows_are_low.true) in
@@ -118,4 +133,10 @@ returns-then-rows_are_low c =
 
 pub through_room-requires : goal.through_room-requires
 through_room-requires c =
-    record { sx_bound = omega (arith, c.requires.sx_bound); pw_nonzero = c.requires.pw_nonzero; lower_value = c.requires.lower_value; out_value = c.requires.out_value; max_bound = c.requires.max_bound }
+    record {
+      sx_bound = omega (arith, c.requires.sx_bound);
+      pw_nonzero = c.requires.pw_nonzero;
+      lower_value = c.requires.lower_value;
+      out_value = c.requires.out_value;
+      max_bound = c.requires.max_bound;
+    }

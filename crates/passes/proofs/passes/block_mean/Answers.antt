@@ -18,7 +18,11 @@ use Rattle.passes.proofs.passes.block_mean.Goals as goal
 
 pub pass_rows-requires : goal.pass_rows-requires
 pass_rows-requires c =
-    record { filter_bound = omega (arith, c.requires.filter_bound, c.requires.pw_nonzero, c.requires.max_bound); lower_value = c.requires.lower_value; room_value = holds_long _ _ _ _ (omega (arith, c.requires.filter_bound, c.requires.pw_nonzero)) }
+    record {
+      filter_bound = omega (arith, c.requires.filter_bound, c.requires.pw_nonzero, c.requires.max_bound);
+      lower_value = c.requires.lower_value;
+      room_value = holds_long _ _ _ _ (omega (arith, c.requires.filter_bound, c.requires.pw_nonzero));
+    }
 
 pub rows_averaged-requires : goal.rows_averaged-requires
 rows_averaged-requires c =
@@ -42,38 +46,54 @@ returns-then-sy-stepy c =
 
 pub overflow_mul-n : goal.overflow_mul-n
 overflow_mul-n c =
-    let far : c.args.stepy * (c.args.h - 1) ≤ 32 * 63 = mul-le-mul {n₂ = 32} {m₂ = 63} (omega (arith, c.requires.filter_bound)) (omega (arith, c.requires.filter_bound)) in
+    let far : c.args.stepy * (c.args.h - 1) ≤ 32 * 63 =
+    mul-le-mul {n₂ = 32} {m₂ = 63} (omega (arith, c.requires.filter_bound)) (omega (arith, c.requires.filter_bound)) in
     omega (arith, far)
 
 pub overflow_add-n : goal.overflow_add-n
 overflow_add-n c =
-    let far : c.args.stepy * (c.args.h - 1) ≤ 32 * 63 = mul-le-mul {n₂ = 32} {m₂ = 63} (omega (arith, c.requires.filter_bound)) (omega (arith, c.requires.filter_bound)) in
+    let far : c.args.stepy * (c.args.h - 1) ≤ 32 * 63 =
+    mul-le-mul {n₂ = 32} {m₂ = 63} (omega (arith, c.requires.filter_bound)) (omega (arith, c.requires.filter_bound)) in
     omega (arith, far)
 
 pub overflow_add-n-2 : goal.overflow_add-n-2
 overflow_add-n-2 c =
-    let far : c.args.stepy * (c.args.h - 1) ≤ 32 * 63 = mul-le-mul {n₂ = 32} {m₂ = 63} (omega (arith, c.requires.filter_bound)) (omega (arith, c.requires.filter_bound)) in
+    let far : c.args.stepy * (c.args.h - 1) ≤ 32 * 63 =
+    mul-le-mul {n₂ = 32} {m₂ = 63} (omega (arith, c.requires.filter_bound)) (omega (arith, c.requires.filter_bound)) in
     omega (arith, far)
 
 pub pass_rows-requires-2 : goal.pass_rows-requires-2
 pass_rows-requires-2 c =
-    let far : c.args.stepy * (c.args.h - 1) ≤ 32 * 63 = mul-le-mul {n₂ = 32} {m₂ = 63} (omega (arith, c.requires.filter_bound)) (omega (arith, c.requires.filter_bound)) in
-    record { filter_bound = omega (arith, c.requires.filter_bound, c.requires.pw_nonzero, c.requires.max_bound, far); lower_value = c.requires.lower_value; room_value = holds_long _ _ _ _ (omega (arith, c.requires.filter_bound, c.requires.pw_nonzero, far)) }
+    let far : c.args.stepy * (c.args.h - 1) ≤ 32 * 63 =
+    mul-le-mul {n₂ = 32} {m₂ = 63} (omega (arith, c.requires.filter_bound)) (omega (arith, c.requires.filter_bound)) in
+    record {
+      filter_bound = omega (arith, c.requires.filter_bound, c.requires.pw_nonzero, c.requires.max_bound, far);
+      lower_value = c.requires.lower_value;
+      room_value = holds_long _ _ _ _ (omega (arith, c.requires.filter_bound, c.requires.pw_nonzero, far));
+    }
 
 pub pass_down_mean-requires : goal.pass_down_mean-requires
 pass_down_mean-requires c =
-    let far : c.args.stepy * (c.args.h - 1) ≤ 32 * 63 = mul-le-mul {n₂ = 32} {m₂ = 63} (omega (arith, c.requires.filter_bound)) (omega (arith, c.requires.filter_bound)) in
+    let far : c.args.stepy * (c.args.h - 1) ≤ 32 * 63 =
+    mul-le-mul {n₂ = 32} {m₂ = 63} (omega (arith, c.requires.filter_bound)) (omega (arith, c.requires.filter_bound)) in
     let plane : Lent = let a = c.args in view a.pw a.ph a.stride a.k a.upper.now a.lower.now in
     let long = ap length c.pass_rows-2.ensures ∙ length-paint _ _ _ _ _ in
     let a = c.args in
     let n = (a.sy % 16 + a.stepy * (a.h - 1)) / 16 + 8 in
     let held = room_held a.max (tap a.filter) plane a.sx a.stepx (a.sy / 16) a.w n a.room.now
-    (omega (arith, c.requires.filter_bound)) (omega (arith, c.requires.filter_bound, c.requires.pw_nonzero, far)) in record { table_value = c.subpel_filters-table.ensures; filter_bound = omega (arith, c.requires.filter_bound, c.requires.pw_nonzero, c.requires.max_bound, long); out_value = c.requires.out_value; held_room = rw c.pass_rows-2.ensures held }
+    (omega (arith, c.requires.filter_bound)) (omega (arith, c.requires.filter_bound, c.requires.pw_nonzero, far)) in
+    record {
+      table_value = c.subpel_filters-table.ensures;
+      filter_bound = omega (arith, c.requires.filter_bound, c.requires.pw_nonzero, c.requires.max_bound, long);
+      out_value = c.requires.out_value;
+      held_room = rw c.pass_rows-2.ensures held;
+    }
 
 pub returns : goal.returns
 unfolding mean_with mean_of
 returns c =
-    let far : c.args.stepy * (c.args.h - 1) ≤ 32 * 63 = mul-le-mul {n₂ = 32} {m₂ = 63} (omega (arith, c.requires.filter_bound)) (omega (arith, c.requires.filter_bound)) in
+    let far : c.args.stepy * (c.args.h - 1) ≤ 32 * 63 =
+    mul-le-mul {n₂ = 32} {m₂ = 63} (omega (arith, c.requires.filter_bound)) (omega (arith, c.requires.filter_bound)) in
     let plane : Lent = let a = c.args in view a.pw a.ph a.stride a.k a.upper.now a.lower.now in
     let a = c.args in
     rw c.pass_rows-2.ensures at c.pass_down_mean.ensures

@@ -39,7 +39,13 @@ pub row_across-requires : goal.row_across-requires
 row_across-requires c =
     let in_room : let a = c.args in
     c.loop-i.i * a.rs + a.w ≤ length a.room.now = let a = c.args in holds_row a.n a.rs a.w (length a.room.now) c.loop-i.i c.requires.room_value (omega arith) in
-    record { table_value = c.requires.table_value; taps = c.requires.taps; filter_bound = omega (arith, c.requires, in_room, c.plane_row-r.ensures.1); w_nonzero = omega (arith, c.requires, in_room, c.plane_row-r.ensures.1); max_bound = omega (arith, c.requires, in_room, c.plane_row-r.ensures.1) }
+    record {
+      table_value = c.requires.table_value;
+      taps = c.requires.taps;
+      filter_bound = omega (arith, c.requires, in_room, c.plane_row-r.ensures.1);
+      w_nonzero = omega (arith, c.requires, in_room, c.plane_row-r.ensures.1);
+      max_bound = omega (arith, c.requires, in_room, c.plane_row-r.ensures.1);
+    }
 
 pub overflow_add-i : goal.overflow_add-i
 overflow_add-i c = omega arith

@@ -42,14 +42,18 @@ whole-requires c = omega (arith, c.requires.b_bound)
 pub overflow_mul-row_in : goal.overflow_mul-row_in
 overflow_mul-row_in c =
     let plane : Lent = let a = c.args in view a.pw a.ph a.stride a.k a.upper.now a.lower.now in
-    let near : (e : ℕ) → let a = c.args in e ≤ a.y0 - 200003 → e * a.stride ≤ 200000 * 131072 = λ e. λ h. mul-le-mul {n₂ = 200000} {m₂ = 131072} (omega (arith, h, c.requires.b_bound)) (fits_says plane c.requires.lower_value).near in
+    let near : (e : ℕ) → let a = c.args in
+    e ≤ a.y0 - 200003 → e * a.stride ≤ 200000 * 131072 =
+    λ e h. mul-le-mul {n₂ = 200000} {m₂ = 131072} (omega (arith, h, c.requires.b_bound)) (fits_says plane c.requires.lower_value).near in
     let small : c.row_in.result * c.args.stride ≤ 200000 * 131072 = near c.row_in.result (row_in_le _ _ _ c.row_in.ensures) in
     omega (arith, small)
 
 pub overflow_add-row_in : goal.overflow_add-row_in
 overflow_add-row_in c =
     let plane : Lent = let a = c.args in view a.pw a.ph a.stride a.k a.upper.now a.lower.now in
-    let near : (e : ℕ) → let a = c.args in e ≤ a.y0 - 200003 → e * a.stride ≤ 200000 * 131072 = λ e. λ h. mul-le-mul {n₂ = 200000} {m₂ = 131072} (omega (arith, h, c.requires.b_bound)) (fits_says plane c.requires.lower_value).near in
+    let near : (e : ℕ) → let a = c.args in
+    e ≤ a.y0 - 200003 → e * a.stride ≤ 200000 * 131072 =
+    λ e h. mul-le-mul {n₂ = 200000} {m₂ = 131072} (omega (arith, h, c.requires.b_bound)) (fits_says plane c.requires.lower_value).near in
     let small : c.row_in.result * c.args.stride ≤ 200000 * 131072 = near c.row_in.result (row_in_le _ _ _ c.row_in.ensures) in
     omega (arith, small, c.requires.b_bound)
 

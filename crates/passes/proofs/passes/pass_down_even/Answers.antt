@@ -15,10 +15,17 @@ use Rattle.passes.proofs.passes.pass_down_even.Goals as goal
 
 pub rows_down-requires : goal.rows_down-requires
 rows_down-requires c =
-    let in-out : let a = c.args in (a.h - 1) * a.stride + a.w ≤ length a.out.now = let a = c.args in holds_row a.h a.stride a.w (length a.out.now) (a.h - 1) c.requires.out_value (omega (arith, c.requires.w_bound)) in
+    let in-out : let a = c.args in (a.h - 1) * a.stride + a.w ≤ length a.out.now = let a = c.args in
+    holds_row a.h a.stride a.w (length a.out.now) (a.h - 1) c.requires.out_value (omega (arith, c.requires.w_bound)) in
     let below : let a = c.args in BelowRows a.max a.room.now 0 a.w a.h = let a = c.args in
     record { le = λ r rh. rw zero-add (below_even a.max a.room.now a.w r a.h c.requires.held_room rh) } in
-    record { taps = c.requires.taps; h_nonzero = omega (arith, c.requires.w_bound); w_in_bounds = omega (arith, c.requires.w_bound, in-out); below_rows = below; max_bound = c.requires.w_bound.4 }
+    record {
+      taps = c.requires.taps;
+      h_nonzero = omega (arith, c.requires.w_bound);
+      w_in_bounds = omega (arith, c.requires.w_bound, in-out);
+      below_rows = below;
+      max_bound = c.requires.w_bound.4;
+    }
 
 pub returns : goal.returns
 unfolding down_even ran_rows

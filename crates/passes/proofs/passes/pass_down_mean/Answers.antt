@@ -38,14 +38,16 @@ overflow_mul-b c =
 pub overflow_mul-r : goal.overflow_mul-r
 overflow_mul-r c =
     let in-out : let a = c.args in
-    c.loop-r.r * a.stride + a.w ≤ length a.out.now = let a = c.args in holds_row a.h a.stride a.w (length a.out.now) c.loop-r.r c.requires.out_value (omega arith) in
+    c.loop-r.r * a.stride + a.w ≤ length a.out.now = let a = c.args in
+    holds_row a.h a.stride a.w (length a.out.now) c.loop-r.r c.requires.out_value (omega arith) in
     omega (arith, in-out)
 
 pub row_down_mean-requires : goal.row_down_mean-requires
 row_down_mean-requires c =
     let far : c.args.step * c.loop-r.r ≤ 32 * 63 = mul-le-mul {n₂ = 32} {m₂ = 63} (omega arith) (omega arith) in
     let in-out : let a = c.args in
-    c.loop-r.r * a.stride + a.w ≤ length a.out.now = let a = c.args in holds_row a.h a.stride a.w (length a.out.now) c.loop-r.r c.requires.out_value (omega arith) in
+    c.loop-r.r * a.stride + a.w ≤ length a.out.now = let a = c.args in
+    holds_row a.h a.stride a.w (length a.out.now) c.loop-r.r c.requires.out_value (omega arith) in
     let t = c.taps_at-p.ensures in
     let a = c.args in
     let r = c.loop-r.r in

@@ -25,7 +25,10 @@ slice_bounds-gather_rows-end c = sym c.loop-done.invariant.1
 
 pub gather_rows-requires : goal.gather_rows-requires
 gather_rows-requires c =
-    record { b_bound = omega (arith, c.requires.filter_bound, c.requires.pw_nonzero, c.fewer-m.ensures, c.loop-done.invariant.1); lower_value = c.requires.lower_value }
+    record {
+      b_bound = omega (arith, c.requires.filter_bound, c.requires.pw_nonzero, c.fewer-m.ensures, c.loop-done.invariant.1);
+      lower_value = c.requires.lower_value;
+    }
 
 pub slice_bounds-rows_across-end : goal.slice_bounds-rows_across-end
 slice_bounds-rows_across-end c = sym c.lines-in-loop-done-1.given
@@ -42,7 +45,13 @@ rows_across-requires c =
     let in_room : let a = c.args in let l = c.loop-done in
     l.done * a.rs + (c.fewer-m.result - 1) * a.rs + a.w ≤ length a.room.now = let a = c.args in
     chunk_fits a.n a.rs a.w (length a.room.now) c.loop-done.done c.fewer-m.result c.requires.room_value (omega arith) c.fewer-m.ensures in
-    let l = c.loop-done in record { taps = c.requires.taps; w_nonzero = omega (arith, c.requires.filter_bound, c.fewer-m.ensures); w_in_bounds = (omega (arith, c.requires.filter_bound, c.fewer-m.ensures, c.lines-in-loop-done-1.given), omega (arith, in_room, l.invariant.2.long)); max_bound = c.requires.pw_nonzero.4 }
+    let l = c.loop-done in
+    record {
+      taps = c.requires.taps;
+      w_nonzero = omega (arith, c.requires.filter_bound, c.fewer-m.ensures);
+      w_in_bounds = (omega (arith, c.requires.filter_bound, c.fewer-m.ensures, c.lines-in-loop-done-1.given), omega (arith, in_room, l.invariant.2.long));
+      max_bound = c.requires.pw_nonzero.4;
+    }
 
 pub overflow_add-done : goal.overflow_add-done
 overflow_add-done c = omega arith

@@ -11,7 +11,8 @@ use Rattle.passes.proofs.passes.pass_gathered.Given as goal
 abbrev pub invariant-loop-done : goal.invariant-loop-done
 invariant-loop-done l =
     (l.done ≤ l.n + 7) × (length l.lines ≡ 576)
-    × Painting l.initial.room l.rs l.w (min l.done l.n) (across_from l.max (tap l.p.filter) (view l.pw l.ph l.stride l.k l.upper l.lower) l.start 16 l.y0) l.room
+    × Painting l.initial.room l.rs l.w (min l.done l.n) (across_from l.max (tap l.p.filter) (view l.pw l.ph l.stride l.k l.upper l.lower) l.start 16 l.y0)
+    l.room
 
 abbrev pub decreases-loop-done : goal.decreases-loop-done
 decreases-loop-done l = l.n - l.done

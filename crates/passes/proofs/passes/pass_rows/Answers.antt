@@ -33,7 +33,13 @@ taps_of-p-requires c = omega (arith, c.requires.filter_bound)
 pub pass_even-requires : goal.pass_even-requires
 pass_even-requires c =
     let e = c.taps_of-p.ensures in
-    record { taps = e.0; filter_bound = omega (arith, e.1, e.2, c.requires.filter_bound); pw_nonzero = omega (arith, c.requires.filter_bound); lower_value = c.requires.lower_value; room_value = c.requires.room_value }
+    record {
+      taps = e.0;
+      filter_bound = omega (arith, e.1, e.2, c.requires.filter_bound);
+      pw_nonzero = omega (arith, c.requires.filter_bound);
+      lower_value = c.requires.lower_value;
+      room_value = c.requires.room_value;
+    }
 
 pub returns-then-step-eq16 : goal.returns-then-step-eq16
 returns-then-step-eq16 c =
@@ -46,7 +52,14 @@ taps_at-p-requires c = record { table_value = c.subpel_filters-table.ensures; fi
 pub pass_across-requires : goal.pass_across-requires
 pass_across-requires c =
     let e = c.taps_at-p.ensures in
-    record { table_value = c.subpel_filters-table.ensures; taps = e.0; filter_bound = omega (arith, e.1, e.2, c.requires.filter_bound); pw_nonzero = omega (arith, c.requires.filter_bound); lower_value = c.requires.lower_value; room_value = c.requires.room_value }
+    record {
+      table_value = c.subpel_filters-table.ensures;
+      taps = e.0;
+      filter_bound = omega (arith, e.1, e.2, c.requires.filter_bound);
+      pw_nonzero = omega (arith, c.requires.filter_bound);
+      lower_value = c.requires.lower_value;
+      room_value = c.requires.room_value;
+    }
 
 pub returns : goal.returns
 returns c =

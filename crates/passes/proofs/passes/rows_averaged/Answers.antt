@@ -21,13 +21,15 @@ overflow_mul-r c = omega (arith, c.requires.w_bound)
 pub overflow_mul-r-in-loop-r : goal.overflow_mul-r-in-loop-r
 overflow_mul-r-in-loop-r c =
     let in-out : let a = c.args in
-    c.loop-r.r * a.stride + a.w ≤ length a.out.now = let a = c.args in holds_row a.h a.stride a.w (length a.out.now) c.loop-r.r c.requires.out_value (omega arith) in
+    c.loop-r.r * a.stride + a.w ≤ length a.out.now = let a = c.args in
+    holds_row a.h a.stride a.w (length a.out.now) c.loop-r.r c.requires.out_value (omega arith) in
     omega (arith, in-out, c.well_formed)
 
 pub row_averaged-requires : goal.row_averaged-requires
 row_averaged-requires c =
     let in-out : let a = c.args in
-    c.loop-r.r * a.stride + a.w ≤ length a.out.now = let a = c.args in holds_row a.h a.stride a.w (length a.out.now) c.loop-r.r c.requires.out_value (omega arith) in
+    c.loop-r.r * a.stride + a.w ≤ length a.out.now = let a = c.args in
+    holds_row a.h a.stride a.w (length a.out.now) c.loop-r.r c.requires.out_value (omega arith) in
     omega (arith, c.requires.w_bound, in-out)
 
 pub overflow_add-r : goal.overflow_add-r

@@ -25,4 +25,6 @@ slice_bounds-result-end c = omega (arith, inside c)
 
 pub returns : goal.returns
 returns c =
-    let inside : c.args.y * c.args.stride + c.args.w ≤ length c.args.band.now = let a = c.args in holds_row a.rows a.stride a.w (length a.band.now) a.y c.requires.band_value c.requires.y_lt_rows in (rw add-sub_cancel_left, simp (add-sub_cancel_left, length-take, length-drop) (omega (arith, inside)), refl)
+    let inside : c.args.y * c.args.stride + c.args.w ≤ length c.args.band.now = let a = c.args in
+    holds_row a.rows a.stride a.w (length a.band.now) a.y c.requires.band_value c.requires.y_lt_rows in
+    (rw add-sub_cancel_left, simp (add-sub_cancel_left, length-take, length-drop) (omega (arith, inside)), refl)

@@ -19,14 +19,16 @@ pub overflow_mul-result : goal.overflow_mul-result
 overflow_mul-result c =
     let row_is : let b = c.args.args in c.natural.result ≡ to_n b.y = let b = c.args.args in
     rw (read_back b.y c.struct_told-1.given.1.1.0.1) at c.natural.ensures in
-    let small : c.natural.result * c.args.dest.width ≤ 65535 * 65536 = mul-le-mul {n₂ = 65535} {m₂ = 65536} (omega (arith, row_is, c.requires.0)) c.requires.1 in
+    let small : c.natural.result * c.args.dest.width ≤ 65535 * 65536 =
+    mul-le-mul {n₂ = 65535} {m₂ = 65536} (omega (arith, row_is, c.requires.0)) c.requires.1 in
     record { fits = omega (arith, small) }
 
 pub overflow_add-result : goal.overflow_add-result
 overflow_add-result c =
     let row_is : let b = c.args.args in c.natural.result ≡ to_n b.y = let b = c.args.args in
     rw (read_back b.y c.struct_told-1.given.1.1.0.1) at c.natural.ensures in
-    let small : c.natural.result * c.args.dest.width ≤ 65535 * 65536 = mul-le-mul {n₂ = 65535} {m₂ = 65536} (omega (arith, row_is, c.requires.0)) c.requires.1 in
+    let small : c.natural.result * c.args.dest.width ≤ 65535 * 65536 =
+    mul-le-mul {n₂ = 65535} {m₂ = 65536} (omega (arith, row_is, c.requires.0)) c.requires.1 in
     let x = column c in record { fits = omega (arith, small, x.0, x.1) }
 
 pub returns : goal.returns

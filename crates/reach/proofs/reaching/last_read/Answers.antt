@@ -51,7 +51,8 @@ overflow_add-start c =
 
 pub overflow_add-start-2 : goal.overflow_add-start-2
 overflow_add-start-2 c =
-    rw (rd w32 (first c.before.before.before.before) tt, far-read c.before.before, rd w32 (at c.before.before) tt, rd w32 (shr 16 (at c.before.before)) tt) (fits (shr 16 (at c.before.before) ⊕ lit (pos 4)) tt)
+    rw (rd w32 (first c.before.before.before.before) tt, far-read c.before.before, rd w32 (at c.before.before) tt, rd w32 (shr 16 (at c.before.before)) tt)
+    (fits (shr 16 (at c.before.before) ⊕ lit (pos 4)) tt)
 
 pub returns : goal.returns
 unfolding last_read along

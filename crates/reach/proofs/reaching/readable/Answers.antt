@@ -22,7 +22,10 @@ first_read-first_row-requires c =
 
 pub last_read-last_row-requires : goal.last_read-last_row-requires
 last_read-last_row-requires c =
-    record { start_bound = (near c.before.before.before.before.before.before.before.before.before).top; step_bound = omega (arith, (near c.before.before.before.before.before.before.before.before.before).down, c.requires.le_w) }
+    record {
+      start_bound = (near c.before.before.before.before.before.before.before.before.before).top;
+      step_bound = omega (arith, (near c.before.before.before.before.before.before.before.before.before).down, c.requires.le_w);
+    }
 
 pub returns : goal.returns
 unfolding readable

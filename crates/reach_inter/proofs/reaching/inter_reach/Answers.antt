@@ -30,7 +30,8 @@ pub returns-then-no-ne0 : goal.returns-then-no-ne0
 unfolding inter_reach
 returns-then-no-ne0 c =
     let led-is : let x = c.args in
-    c.lead-led.result ≡ lead x.args x.grid x.frame (of_size x.ref_width x.ref_height) (get_or x.mvs (list_number x.second) []) = rw (to_z-of_z c.ranges.ref_width, to_z-of_z c.ranges.ref_height, c.list_number-list.ensures.0) at c.lead-led.ensures in
+    c.lead-led.result ≡ lead x.args x.grid x.frame (of_size x.ref_width x.ref_height) (get_or x.mvs (list_number x.second) []) =
+    rw (to_z-of_z c.ranges.ref_width, to_z-of_z c.ranges.ref_height, c.list_number-list.ensures.0) at c.lead-led.ensures in
     let number : let x = c.args in
     answer (inter_rows x.args x.grid x.frame x.mvs x.second x.ref_width x.ref_height) ≡ c.refusal-no.result = let x = c.args in
     sym
@@ -41,7 +42,8 @@ returns-then-no-ne0 c =
 pub readable-requires : goal.readable-requires
 readable-requires c =
     let led-is : let x = c.args in
-    c.lead-led.result ≡ lead x.args x.grid x.frame (of_size x.ref_width x.ref_height) (get_or x.mvs (list_number x.second) []) = rw (to_z-of_z c.ranges.ref_width, to_z-of_z c.ranges.ref_height, c.list_number-list.ensures.0) at c.lead-led.ensures in
+    c.lead-led.result ≡ lead x.args x.grid x.frame (of_size x.ref_width x.ref_height) (get_or x.mvs (list_number x.second) []) =
+    rw (to_z-of_z c.ranges.ref_width, to_z-of_z c.ranges.ref_height, c.list_number-list.ensures.0) at c.lead-led.ensures in
     let number : let x = c.args in
     answer (inter_rows x.args x.grid x.frame x.mvs x.second x.ref_width x.ref_height) ≡ c.refusal-no.result = let x = c.args in
     sym
@@ -57,12 +59,15 @@ readable-requires c =
     ap (λ (e : Led). e.from) led-is
     ∙ leads x.args x.grid x.frame x.mvs x.second (of_size x.ref_width x.ref_height) passed.look in
     let plane-is : let x = c.args in
-    c.plane_geom-plane.result ≡ plane_geom x.args x.frame (of_size x.ref_width x.ref_height) = rw (to_z-of_z c.ranges.ref_width, to_z-of_z c.ranges.ref_height) at c.plane_geom-plane.ensures in
+    c.plane_geom-plane.result ≡ plane_geom x.args x.frame (of_size x.ref_width x.ref_height) =
+    rw (to_z-of_z c.ranges.ref_width, to_z-of_z c.ranges.ref_height) at c.plane_geom-plane.ensures in
     let wide : let x = c.args in
-    c.natural.result ≡ extent x.args.plane x.frame.subsampling_x x.ref_width = let e = rw (read_back c.plane_geom-plane.result.width (omega (arith, c.struct_told-1.given))) at c.natural.ensures in
+    c.natural.result ≡ extent x.args.plane x.frame.subsampling_x x.ref_width = let e =
+    rw (read_back c.plane_geom-plane.result.width (omega (arith, c.struct_told-1.given))) at c.natural.ensures in
     e ∙ ap (λ (q : PlaneGeom). to_n q.width) plane-is in
     let high : let x = c.args in
-    c.natural-2.result ≡ extent x.args.plane x.frame.subsampling_y x.ref_height = let e = rw (read_back c.plane_geom-plane.result.height (omega (arith, c.struct_told-2-1.given))) at c.natural-2.ensures in
+    c.natural-2.result ≡ extent x.args.plane x.frame.subsampling_y x.ref_height = let e =
+    rw (read_back c.plane_geom-plane.result.height (omega (arith, c.struct_told-2-1.given))) at c.natural-2.ensures in
     e ∙ ap (λ (q : PlaneGeom). to_n q.height) plane-is in
     let ok = passed in
     let a = c.args in
@@ -73,7 +78,8 @@ pub returns : goal.returns
 unfolding inter_reach
 returns c =
     let led-is : let x = c.args in
-    c.lead-led.result ≡ lead x.args x.grid x.frame (of_size x.ref_width x.ref_height) (get_or x.mvs (list_number x.second) []) = rw (to_z-of_z c.ranges.ref_width, to_z-of_z c.ranges.ref_height, c.list_number-list.ensures.0) at c.lead-led.ensures in
+    c.lead-led.result ≡ lead x.args x.grid x.frame (of_size x.ref_width x.ref_height) (get_or x.mvs (list_number x.second) []) =
+    rw (to_z-of_z c.ranges.ref_width, to_z-of_z c.ranges.ref_height, c.list_number-list.ensures.0) at c.lead-led.ensures in
     let number : let x = c.args in
     answer (inter_rows x.args x.grid x.frame x.mvs x.second x.ref_width x.ref_height) ≡ c.refusal-no.result = let x = c.args in
     sym
@@ -89,11 +95,14 @@ returns c =
     ap (λ (e : Led). e.from) led-is
     ∙ leads x.args x.grid x.frame x.mvs x.second (of_size x.ref_width x.ref_height) passed.look in
     let plane-is : let x = c.args in
-    c.plane_geom-plane.result ≡ plane_geom x.args x.frame (of_size x.ref_width x.ref_height) = rw (to_z-of_z c.ranges.ref_width, to_z-of_z c.ranges.ref_height) at c.plane_geom-plane.ensures in
+    c.plane_geom-plane.result ≡ plane_geom x.args x.frame (of_size x.ref_width x.ref_height) =
+    rw (to_z-of_z c.ranges.ref_width, to_z-of_z c.ranges.ref_height) at c.plane_geom-plane.ensures in
     let wide : let x = c.args in
-    c.natural.result ≡ extent x.args.plane x.frame.subsampling_x x.ref_width = let e = rw (read_back c.plane_geom-plane.result.width (omega (arith, c.struct_told-1.given))) at c.natural.ensures in
+    c.natural.result ≡ extent x.args.plane x.frame.subsampling_x x.ref_width = let e =
+    rw (read_back c.plane_geom-plane.result.width (omega (arith, c.struct_told-1.given))) at c.natural.ensures in
     e ∙ ap (λ (q : PlaneGeom). to_n q.width) plane-is in
     let high : let x = c.args in
-    c.natural-2.result ≡ extent x.args.plane x.frame.subsampling_y x.ref_height = let e = rw (read_back c.plane_geom-plane.result.height (omega (arith, c.struct_told-2-1.given))) at c.natural-2.ensures in
+    c.natural-2.result ≡ extent x.args.plane x.frame.subsampling_y x.ref_height = let e =
+    rw (read_back c.plane_geom-plane.result.height (omega (arith, c.struct_told-2-1.given))) at c.natural-2.ensures in
     e ∙ ap (λ (q : PlaneGeom). to_n q.height) plane-is in
     rw zero (c.readable.ensures ∙ same _ _ wide high leads-to)

@@ -15,7 +15,8 @@ returns-then-number-ne0 c =
     let asked : Call = let a = c.args in
     call a.shape (ref (lent a.geom a.upper.now a.lower.now) a.from)
     (ref (lent a.geom2 a.upper2.now a.lower2.now) a.from2) a.stride in
-    let judged : c.lowest-number.result ≡ number_of asked (length c.args.out.now) (length c.args.room.now) = c.lowest-number.ensures ∙ number_both asked _ _ _ _ c.requires.average_value c.requires.one_value c.refusal_one-two.ensures in
+    let judged : c.lowest-number.result ≡ number_of asked (length c.args.out.now) (length c.args.room.now) = c.lowest-number.ensures
+    ∙ number_both asked _ _ _ _ c.requires.average_value c.requires.one_value c.refusal_one-two.ensures in
     let e = judged in
     let no : number_of asked (length c.args.out.now) (length c.args.room.now) ≡ 0 → ⊥ = λ z. c.if-number-ne0.true (e ∙ z) in
     record { number = e; output = sym (after_refused asked c.args.out.now _ no); kept = λ d. refl }
@@ -25,8 +26,10 @@ predict_one-requires c =
     let asked : Call = let a = c.args in
     call a.shape (ref (lent a.geom a.upper.now a.lower.now) a.from)
     (ref (lent a.geom2 a.upper2.now a.lower2.now) a.from2) a.stride in
-    let judged : c.lowest-number.result ≡ number_of asked (length c.args.out.now) (length c.args.room.now) = c.lowest-number.ensures ∙ number_both asked _ _ _ _ c.requires.average_value c.requires.one_value c.refusal_one-two.ensures in
-    let zero : number_of asked (length c.args.out.now) (length c.args.room.now) ≡ 0 = let y : c.lowest-number.result ≡ 0 = omega (arith, c.if-number-ne0.false) in sym judged ∙ y in
+    let judged : c.lowest-number.result ≡ number_of asked (length c.args.out.now) (length c.args.room.now) = c.lowest-number.ensures
+    ∙ number_both asked _ _ _ _ c.requires.average_value c.requires.one_value c.refusal_one-two.ensures in
+    let zero : number_of asked (length c.args.out.now) (length c.args.room.now) ≡ 0 = let y : c.lowest-number.result ≡ 0 =
+    omega (arith, c.if-number-ne0.false) in sym judged ∙ y in
     let taken : Taken asked (length c.args.out.now) (length c.args.room.now) = accepted asked _ _ zero in
     let t = taken in
     record { legal = t.one; out_value = (t.out, t.room) }
@@ -36,8 +39,10 @@ predict_two-requires c =
     let asked : Call = let a = c.args in
     call a.shape (ref (lent a.geom a.upper.now a.lower.now) a.from)
     (ref (lent a.geom2 a.upper2.now a.lower2.now) a.from2) a.stride in
-    let judged : c.lowest-number.result ≡ number_of asked (length c.args.out.now) (length c.args.room.now) = c.lowest-number.ensures ∙ number_both asked _ _ _ _ c.requires.average_value c.requires.one_value c.refusal_one-two.ensures in
-    let zero : number_of asked (length c.args.out.now) (length c.args.room.now) ≡ 0 = let y : c.lowest-number.result ≡ 0 = omega (arith, c.if-number-ne0.false) in sym judged ∙ y in
+    let judged : c.lowest-number.result ≡ number_of asked (length c.args.out.now) (length c.args.room.now) = c.lowest-number.ensures
+    ∙ number_both asked _ _ _ _ c.requires.average_value c.requires.one_value c.refusal_one-two.ensures in
+    let zero : number_of asked (length c.args.out.now) (length c.args.room.now) ≡ 0 = let y : c.lowest-number.result ≡ 0 =
+    omega (arith, c.if-number-ne0.false) in sym judged ∙ y in
     let taken : Taken asked (length c.args.out.now) (length c.args.room.now) = accepted asked _ _ zero in
     let t = taken in
     let long = ap length c.predict_one.ensures ∙ length-paint _ _ _ _ _ in
@@ -48,8 +53,10 @@ returns c =
     let asked : Call = let a = c.args in
     call a.shape (ref (lent a.geom a.upper.now a.lower.now) a.from)
     (ref (lent a.geom2 a.upper2.now a.lower2.now) a.from2) a.stride in
-    let judged : c.lowest-number.result ≡ number_of asked (length c.args.out.now) (length c.args.room.now) = c.lowest-number.ensures ∙ number_both asked _ _ _ _ c.requires.average_value c.requires.one_value c.refusal_one-two.ensures in
-    let zero : number_of asked (length c.args.out.now) (length c.args.room.now) ≡ 0 = let y : c.lowest-number.result ≡ 0 = omega (arith, c.if-number-ne0.false) in sym judged ∙ y in
+    let judged : c.lowest-number.result ≡ number_of asked (length c.args.out.now) (length c.args.room.now) = c.lowest-number.ensures
+    ∙ number_both asked _ _ _ _ c.requires.average_value c.requires.one_value c.refusal_one-two.ensures in
+    let zero : number_of asked (length c.args.out.now) (length c.args.room.now) ≡ 0 = let y : c.lowest-number.result ≡ 0 =
+    omega (arith, c.if-number-ne0.false) in sym judged ∙ y in
     let taken : Taken asked (length c.args.out.now) (length c.args.room.now) = accepted asked _ _ zero in
     let out = c.args.out.now in
     let z = zero in

@@ -13,7 +13,8 @@ returns-then-one-ne0 c =
     let asked : Call = let a = c.args in
     call a.shape (ref (lent a.geom a.upper.now a.lower.now) a.from)
     (ref (lent a.geom2 a.upper2.now a.lower2.now) a.from2) a.stride in
-    let judged : c.refusal_one-one.result ≡ number_of asked (length c.args.out.now) (length c.args.room.now) = c.refusal_one-one.ensures ∙ number_alone asked _ _ c.if-shape.false in
+    let judged : c.refusal_one-one.result ≡ number_of asked (length c.args.out.now) (length c.args.room.now) = c.refusal_one-one.ensures
+    ∙ number_alone asked _ _ c.if-shape.false in
     let e = judged in
     let no : number_of asked (length c.args.out.now) (length c.args.room.now) ≡ 0 → ⊥ = λ z. c.if-one-ne0.true (e ∙ z) in
     record { number = e; output = sym (after_refused asked c.args.out.now _ no); kept = λ d. refl }
@@ -23,8 +24,10 @@ predict_one-requires c =
     let asked : Call = let a = c.args in
     call a.shape (ref (lent a.geom a.upper.now a.lower.now) a.from)
     (ref (lent a.geom2 a.upper2.now a.lower2.now) a.from2) a.stride in
-    let judged : c.refusal_one-one.result ≡ number_of asked (length c.args.out.now) (length c.args.room.now) = c.refusal_one-one.ensures ∙ number_alone asked _ _ c.if-shape.false in
-    let zero : number_of asked (length c.args.out.now) (length c.args.room.now) ≡ 0 = let y : c.refusal_one-one.result ≡ 0 = omega (arith, c.if-one-ne0.false) in sym judged ∙ y in
+    let judged : c.refusal_one-one.result ≡ number_of asked (length c.args.out.now) (length c.args.room.now) = c.refusal_one-one.ensures
+    ∙ number_alone asked _ _ c.if-shape.false in
+    let zero : number_of asked (length c.args.out.now) (length c.args.room.now) ≡ 0 = let y : c.refusal_one-one.result ≡ 0 =
+    omega (arith, c.if-one-ne0.false) in sym judged ∙ y in
     let t = accepted asked _ _ zero in
     record { legal = t.one; out_value = (t.out, t.room) }
 
@@ -33,8 +36,10 @@ returns c =
     let asked : Call = let a = c.args in
     call a.shape (ref (lent a.geom a.upper.now a.lower.now) a.from)
     (ref (lent a.geom2 a.upper2.now a.lower2.now) a.from2) a.stride in
-    let judged : c.refusal_one-one.result ≡ number_of asked (length c.args.out.now) (length c.args.room.now) = c.refusal_one-one.ensures ∙ number_alone asked _ _ c.if-shape.false in
-    let zero : number_of asked (length c.args.out.now) (length c.args.room.now) ≡ 0 = let y : c.refusal_one-one.result ≡ 0 = omega (arith, c.if-one-ne0.false) in sym judged ∙ y in
+    let judged : c.refusal_one-one.result ≡ number_of asked (length c.args.out.now) (length c.args.room.now) = c.refusal_one-one.ensures
+    ∙ number_alone asked _ _ c.if-shape.false in
+    let zero : number_of asked (length c.args.out.now) (length c.args.room.now) ≡ 0 = let y : c.refusal_one-one.result ≡ 0 =
+    omega (arith, c.if-one-ne0.false) in sym judged ∙ y in
     let out = c.args.out.now in
     let z = zero in
     let painted = c.predict_one.ensures ∙ painted_one asked out c.if-shape.false in

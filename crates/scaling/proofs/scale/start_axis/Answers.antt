@@ -39,10 +39,17 @@ luma_of-requires c = rw (x-is c) (placed_small c.args.x c.requires.frame_value.1
 pub start_of-requires : goal.start_of-requires
 start_of-requires c =
     let at : c.natural-at.result ≤ 65535 = rw (x-is c.before.before.before) (placed_small c.args.x c.requires.frame_value.1) in
-    rw (rd w32 (vector c.before.before.before.before.before.before.before) tt) (record { x_bound = (at, c.luma_of.ensures.1); scale_bound = (c.scale_of-scale.ensures.1, c.requires.v_bound) })
+    rw (rd w32 (vector c.before.before.before.before.before.before.before) tt)
+    (record { x_bound = (at, c.luma_of.ensures.1); scale_bound = (c.scale_of-scale.ensures.1, c.requires.v_bound) })
 
 pub returns : goal.returns
 unfolding start_axis
 returns c =
     let luma = c.luma_of.ensures.0 in
-    cc (c.start_of.ensures, rd w32 (vector c.before.before.before.before.before.before.before) tt, luma, x-is c.before.before.before, scale-is c.before.before.before)
+    cc (
+      c.start_of.ensures,
+      rd w32 (vector c.before.before.before.before.before.before.before) tt,
+      luma,
+      x-is c.before.before.before,
+      scale-is c.before.before.before,
+    )

@@ -63,7 +63,8 @@ overflow_add-result c = rw (moved-read c, frac-read c) (fits (moved c.before.bef
 
 pub overflow_add-result-2 : goal.overflow_add-result-2
 overflow_add-result-2 c =
-    rw (moved-read c, frac-read c, rd w64 (moved c.before.before ⊕ frac c) tt, at_read c.before.before) (fits (at c.before.before ⊕ (moved c.before.before ⊕ frac c)) tt)
+    rw (moved-read c, frac-read c, rd w64 (moved c.before.before ⊕ frac c) tt, at_read c.before.before)
+    (fits (at c.before.before ⊕ (moved c.before.before ⊕ frac c)) tt)
 
 pub overflow_cast-result : goal.overflow_cast-result
 overflow_cast-result c =

@@ -12,10 +12,19 @@ b : (s : Start) → Bd 32767 s.args.b.0
 b s = legal_bd s.args.b s.requires.1
 
 pub overflow_add-a : goal.overflow_add-a
-overflow_add-a c = rw (rd w32 (a c.before.before.before.before) tt, rd w32 (b c.before.before.before.before) tt) (fits (a c.before.before.before.before ⊕ b c.before.before.before.before) tt)
+overflow_add-a c = rw (rd w32 (a c.before.before.before.before) tt, rd w32 (b c.before.before.before.before) tt)
+    (fits (a c.before.before.before.before ⊕ b c.before.before.before.before) tt)
 
 pub halved-requires : goal.halved-requires
-halved-requires c = rw (rd w32 (a c.before.before.before.before) tt, rd w32 (b c.before.before.before.before) tt, rd w32 (a c.before.before.before.before ⊕ b c.before.before.before.before) tt) (a c.before.before.before.before ⊕ b c.before.before.before.before).le
+halved-requires c = rw (
+  rd w32 (a c.before.before.before.before) tt,
+  rd w32 (b c.before.before.before.before) tt,
+  rd w32 (a c.before.before.before.before ⊕ b c.before.before.before.before) tt,
+) (a c.before.before.before.before ⊕ b c.before.before.before.before).le
 
 pub returns : goal.returns
-returns c = rw (rd w32 (a c.before.before.before.before.before) tt, rd w32 (b c.before.before.before.before.before) tt, rd w32 (a c.before.before.before.before.before ⊕ b c.before.before.before.before.before) tt) at c.halved.ensures
+returns c = rw (
+  rd w32 (a c.before.before.before.before.before) tt,
+  rd w32 (b c.before.before.before.before.before) tt,
+  rd w32 (a c.before.before.before.before.before ⊕ b c.before.before.before.before.before) tt,
+) at c.halved.ensures

@@ -18,29 +18,58 @@ y : (s : Start) → Bd 32767 s.args.d.0
 y s = legal_bd s.args.d s.requires.c_value.1
 
 pub overflow_add-a : goal.overflow_add-a
-overflow_add-a c = rw (rd w32 (a c.before.before.before.before) tt, rd w32 (b c.before.before.before.before) tt) (fits (a c.before.before.before.before ⊕ b c.before.before.before.before) tt)
+overflow_add-a c = rw (rd w32 (a c.before.before.before.before) tt, rd w32 (b c.before.before.before.before) tt)
+    (fits (a c.before.before.before.before ⊕ b c.before.before.before.before) tt)
 
 pub overflow_add-a-2 : goal.overflow_add-a-2
 overflow_add-a-2 c =
     let ab = a c.before.before.before.before.before.before ⊕ b c.before.before.before.before.before.before in
-    rw (rd w32 (a c.before.before.before.before.before.before) tt, rd w32 (b c.before.before.before.before.before.before) tt, rd w32 ab tt, rd w32 (x c.before.before.before.before.before.before) tt) (fits (ab ⊕ x c.before.before.before.before.before.before) tt)
+    rw (
+      rd w32 (a c.before.before.before.before.before.before) tt,
+      rd w32 (b c.before.before.before.before.before.before) tt,
+      rd w32 ab tt,
+      rd w32 (x c.before.before.before.before.before.before) tt,
+    ) (fits (ab ⊕ x c.before.before.before.before.before.before) tt)
 
 pub overflow_add-a-3 : goal.overflow_add-a-3
 overflow_add-a-3 c =
     let ab = a c.before.before.before.before.before.before.before.before ⊕ b c.before.before.before.before.before.before.before.before in
     let abx = ab ⊕ x c.before.before.before.before.before.before.before.before in
-    rw (rd w32 (a c.before.before.before.before.before.before.before.before) tt, rd w32 (b c.before.before.before.before.before.before.before.before) tt, rd w32 ab tt, rd w32 (x c.before.before.before.before.before.before.before.before) tt, rd w32 abx tt, rd w32 (y c.before.before.before.before.before.before.before.before) tt) (fits (abx ⊕ y c.before.before.before.before.before.before.before.before) tt)
+    rw (
+      rd w32 (a c.before.before.before.before.before.before.before.before) tt,
+      rd w32 (b c.before.before.before.before.before.before.before.before) tt,
+      rd w32 ab tt,
+      rd w32 (x c.before.before.before.before.before.before.before.before) tt,
+      rd w32 abx tt,
+      rd w32 (y c.before.before.before.before.before.before.before.before) tt,
+    ) (fits (abx ⊕ y c.before.before.before.before.before.before.before.before) tt)
 
 pub quartered-requires : goal.quartered-requires
 quartered-requires c =
     let ab = a c.before.before.before.before.before.before.before.before ⊕ b c.before.before.before.before.before.before.before.before in
     let abx = ab ⊕ x c.before.before.before.before.before.before.before.before in
     let all = abx ⊕ y c.before.before.before.before.before.before.before.before in
-    rw (rd w32 (a c.before.before.before.before.before.before.before.before) tt, rd w32 (b c.before.before.before.before.before.before.before.before) tt, rd w32 ab tt, rd w32 (x c.before.before.before.before.before.before.before.before) tt, rd w32 abx tt, rd w32 (y c.before.before.before.before.before.before.before.before) tt, rd w32 all tt) all.le
+    rw (
+      rd w32 (a c.before.before.before.before.before.before.before.before) tt,
+      rd w32 (b c.before.before.before.before.before.before.before.before) tt,
+      rd w32 ab tt,
+      rd w32 (x c.before.before.before.before.before.before.before.before) tt,
+      rd w32 abx tt,
+      rd w32 (y c.before.before.before.before.before.before.before.before) tt,
+      rd w32 all tt,
+    ) all.le
 
 pub returns : goal.returns
 returns c =
     let ab = a c.before.before.before.before.before.before.before.before.before ⊕ b c.before.before.before.before.before.before.before.before.before in
     let abx = ab ⊕ x c.before.before.before.before.before.before.before.before.before in
     let all = abx ⊕ y c.before.before.before.before.before.before.before.before.before in
-    rw (rd w32 (a c.before.before.before.before.before.before.before.before.before) tt, rd w32 (b c.before.before.before.before.before.before.before.before.before) tt, rd w32 ab tt, rd w32 (x c.before.before.before.before.before.before.before.before.before) tt, rd w32 abx tt, rd w32 (y c.before.before.before.before.before.before.before.before.before) tt, rd w32 all tt) at c.quartered.ensures
+    rw (
+      rd w32 (a c.before.before.before.before.before.before.before.before.before) tt,
+      rd w32 (b c.before.before.before.before.before.before.before.before.before) tt,
+      rd w32 ab tt,
+      rd w32 (x c.before.before.before.before.before.before.before.before.before) tt,
+      rd w32 abx tt,
+      rd w32 (y c.before.before.before.before.before.before.before.before.before) tt,
+      rd w32 all tt,
+    ) at c.quartered.ensures

@@ -23,7 +23,8 @@ unfolding append_mvs
 returns-then-no-ne0 c =
     let lent : Tables = let a = c.args in tables a.modes.now a.frames.now a.mvs.now a.subs.now a.prev_frames.now a.prev_mvs.now in
     let answer-is : let a = c.args in
-    c.append_refusal-no.result ≡ answer (append_rows lent a.geometry a.target a.block a.block_mvs a.use_prev) = rw (to_z-of_z c.ranges.target) at c.append_refusal-no.ensures in
+    c.append_refusal-no.result ≡ answer (append_rows lent a.geometry a.target a.block a.block_mvs a.use_prev) =
+    rw (to_z-of_z c.ranges.target) at c.append_refusal-no.ensures in
     let e = sym answer-is in
     rw (e, ne_eqb _ _ c.if-no-ne0.true, c.zero_mv-zero.ensures)
 
@@ -31,9 +32,11 @@ pub overflow_cast-block : goal.overflow_cast-block
 overflow_cast-block c =
     let lent : Tables = let a = c.args in tables a.modes.now a.frames.now a.mvs.now a.subs.now a.prev_frames.now a.prev_mvs.now in
     let answer-is : let a = c.args in
-    c.append_refusal-no.result ≡ answer (append_rows lent a.geometry a.target a.block a.block_mvs a.use_prev) = rw (to_z-of_z c.ranges.target) at c.append_refusal-no.ensures in
+    c.append_refusal-no.result ≡ answer (append_rows lent a.geometry a.target a.block a.block_mvs a.use_prev) =
+    rw (to_z-of_z c.ranges.target) at c.append_refusal-no.ensures in
     let zero : let a = c.args in answer (append_rows lent a.geometry a.target a.block a.block_mvs a.use_prev) ≡ 0 = sym answer-is ∙ c.if-no-ne0.false in
-    let ok : let a = c.args in AppendOk lent a.geometry a.block a.block_mvs a.use_prev = let a = c.args in append_ok lent a.geometry a.target a.block a.block_mvs a.use_prev zero in
+    let ok : let a = c.args in AppendOk lent a.geometry a.block a.block_mvs a.use_prev = let a = c.args in
+    append_ok lent a.geometry a.target a.block a.block_mvs a.use_prev zero in
     let small : c.args.block ≤ 3 = leb-true c.args.block 3 ok.block in
     record { sfits = omega (arith, small) }
 
@@ -42,9 +45,11 @@ unfolding between
 search-found-requires c =
     let lent : Tables = let a = c.args in tables a.modes.now a.frames.now a.mvs.now a.subs.now a.prev_frames.now a.prev_mvs.now in
     let answer-is : let a = c.args in
-    c.append_refusal-no.result ≡ answer (append_rows lent a.geometry a.target a.block a.block_mvs a.use_prev) = rw (to_z-of_z c.ranges.target) at c.append_refusal-no.ensures in
+    c.append_refusal-no.result ≡ answer (append_rows lent a.geometry a.target a.block a.block_mvs a.use_prev) =
+    rw (to_z-of_z c.ranges.target) at c.append_refusal-no.ensures in
     let zero : let a = c.args in answer (append_rows lent a.geometry a.target a.block a.block_mvs a.use_prev) ≡ 0 = sym answer-is ∙ c.if-no-ne0.false in
-    let ok : let a = c.args in AppendOk lent a.geometry a.block a.block_mvs a.use_prev = let a = c.args in append_ok lent a.geometry a.target a.block a.block_mvs a.use_prev zero in
+    let ok : let a = c.args in AppendOk lent a.geometry a.block a.block_mvs a.use_prev = let a = c.args in
+    append_ok lent a.geometry a.target a.block a.block_mvs a.use_prev zero in
     let small : c.args.block ≤ 3 = leb-true c.args.block 3 ok.block in
     let block_is : to_z w32 c.args.block ≡ pos c.args.block = to_z_pos w32 {n = c.args.block} (omega (arith, small)) in
     record { g_value = (ok.grid, ok.size, rw block_is ok.block); use_prev_value = ok.long }
@@ -53,18 +58,22 @@ pub clamp_ref-first-requires : goal.clamp_ref-first-requires
 clamp_ref-first-requires c =
     let lent : Tables = let a = c.args in tables a.modes.now a.frames.now a.mvs.now a.subs.now a.prev_frames.now a.prev_mvs.now in
     let answer-is : let a = c.args in
-    c.append_refusal-no.result ≡ answer (append_rows lent a.geometry a.target a.block a.block_mvs a.use_prev) = rw (to_z-of_z c.ranges.target) at c.append_refusal-no.ensures in
+    c.append_refusal-no.result ≡ answer (append_rows lent a.geometry a.target a.block a.block_mvs a.use_prev) =
+    rw (to_z-of_z c.ranges.target) at c.append_refusal-no.ensures in
     let zero : let a = c.args in answer (append_rows lent a.geometry a.target a.block a.block_mvs a.use_prev) ≡ 0 = sym answer-is ∙ c.if-no-ne0.false in
-    let ok : let a = c.args in AppendOk lent a.geometry a.block a.block_mvs a.use_prev = let a = c.args in append_ok lent a.geometry a.target a.block a.block_mvs a.use_prev zero in
+    let ok : let a = c.args in AppendOk lent a.geometry a.block a.block_mvs a.use_prev = let a = c.args in
+    append_ok lent a.geometry a.target a.block a.block_mvs a.use_prev zero in
     (omega arith, ok.size, ok.grid)
 
 pub clamp_ref-second-requires : goal.clamp_ref-second-requires
 clamp_ref-second-requires c =
     let lent : Tables = let a = c.args in tables a.modes.now a.frames.now a.mvs.now a.subs.now a.prev_frames.now a.prev_mvs.now in
     let answer-is : let a = c.args in
-    c.append_refusal-no.result ≡ answer (append_rows lent a.geometry a.target a.block a.block_mvs a.use_prev) = rw (to_z-of_z c.ranges.target) at c.append_refusal-no.ensures in
+    c.append_refusal-no.result ≡ answer (append_rows lent a.geometry a.target a.block a.block_mvs a.use_prev) =
+    rw (to_z-of_z c.ranges.target) at c.append_refusal-no.ensures in
     let zero : let a = c.args in answer (append_rows lent a.geometry a.target a.block a.block_mvs a.use_prev) ≡ 0 = sym answer-is ∙ c.if-no-ne0.false in
-    let ok : let a = c.args in AppendOk lent a.geometry a.block a.block_mvs a.use_prev = let a = c.args in append_ok lent a.geometry a.target a.block a.block_mvs a.use_prev zero in
+    let ok : let a = c.args in AppendOk lent a.geometry a.block a.block_mvs a.use_prev = let a = c.args in
+    append_ok lent a.geometry a.target a.block a.block_mvs a.use_prev zero in
     (omega arith, ok.size, ok.grid)
 
 pub returns : goal.returns
@@ -72,9 +81,11 @@ unfolding append_mvs found
 returns c =
     let lent : Tables = let a = c.args in tables a.modes.now a.frames.now a.mvs.now a.subs.now a.prev_frames.now a.prev_mvs.now in
     let answer-is : let a = c.args in
-    c.append_refusal-no.result ≡ answer (append_rows lent a.geometry a.target a.block a.block_mvs a.use_prev) = rw (to_z-of_z c.ranges.target) at c.append_refusal-no.ensures in
+    c.append_refusal-no.result ≡ answer (append_rows lent a.geometry a.target a.block a.block_mvs a.use_prev) =
+    rw (to_z-of_z c.ranges.target) at c.append_refusal-no.ensures in
     let zero : let a = c.args in answer (append_rows lent a.geometry a.target a.block a.block_mvs a.use_prev) ≡ 0 = sym answer-is ∙ c.if-no-ne0.false in
-    let ok : let a = c.args in AppendOk lent a.geometry a.block a.block_mvs a.use_prev = let a = c.args in append_ok lent a.geometry a.target a.block a.block_mvs a.use_prev zero in
+    let ok : let a = c.args in AppendOk lent a.geometry a.block a.block_mvs a.use_prev = let a = c.args in
+    append_ok lent a.geometry a.target a.block a.block_mvs a.use_prev zero in
     let small : c.args.block ≤ 3 = leb-true c.args.block 3 ok.block in
     let block_is : to_z w32 c.args.block ≡ pos c.args.block = to_z_pos w32 {n = c.args.block} (omega (arith, small)) in
     let is = rw (to_z-of_z c.ranges.target, block_is) at c.search-found.ensures in

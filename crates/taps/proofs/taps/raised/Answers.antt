@@ -35,7 +35,8 @@ pub overflow_add-result : goal.overflow_add-result
 unfolding tap
 overflow_add-result c =
     let elem : ℤ = get_or (get_or c.args.rows.now c.args.phase []) c.args.t (pos 0) in
-    let here : elem ≡ tap c.args.filter c.args.phase c.args.t = ap (λ (l : List (List ℤ)). get_or (get_or l c.args.phase []) c.args.t (pos 0)) c.requires.rows_value in
+    let here : elem ≡ tap c.args.filter c.args.phase c.args.t =
+    ap (λ (l : List (List ℤ)). get_or (get_or l c.args.phase []) c.args.t (pos 0)) c.requires.rows_value in
     let lift : Up elem = let a = c.args in
     up elem (rw here (tap_range a.filter a.phase c.requires.filter_bound.0 c.requires.filter_bound.1 a.t c.requires.filter_bound.2)) in
     let elem_fits : SFits w16 elem = fits (bd elem lift.small) tt in
@@ -46,7 +47,8 @@ pub overflow_cast-result : goal.overflow_cast-result
 unfolding tap
 overflow_cast-result c =
     let elem : ℤ = get_or (get_or c.args.rows.now c.args.phase []) c.args.t (pos 0) in
-    let here : elem ≡ tap c.args.filter c.args.phase c.args.t = ap (λ (l : List (List ℤ)). get_or (get_or l c.args.phase []) c.args.t (pos 0)) c.requires.rows_value in
+    let here : elem ≡ tap c.args.filter c.args.phase c.args.t =
+    ap (λ (l : List (List ℤ)). get_or (get_or l c.args.phase []) c.args.t (pos 0)) c.requires.rows_value in
     let lift : Up elem = let a = c.args in
     up elem (rw here (tap_range a.filter a.phase c.requires.filter_bound.0 c.requires.filter_bound.1 a.t c.requires.filter_bound.2)) in
     let elem_fits : SFits w16 elem = fits (bd elem lift.small) tt in
@@ -57,7 +59,8 @@ pub returns : goal.returns
 unfolding tap
 returns c =
     let elem : ℤ = get_or (get_or c.args.rows.now c.args.phase []) c.args.t (pos 0) in
-    let here : elem ≡ tap c.args.filter c.args.phase c.args.t = ap (λ (l : List (List ℤ)). get_or (get_or l c.args.phase []) c.args.t (pos 0)) c.requires.rows_value in
+    let here : elem ≡ tap c.args.filter c.args.phase c.args.t =
+    ap (λ (l : List (List ℤ)). get_or (get_or l c.args.phase []) c.args.t (pos 0)) c.requires.rows_value in
     let lift : Up elem = let a = c.args in
     up elem (rw here (tap_range a.filter a.phase c.requires.filter_bound.0 c.requires.filter_bound.1 a.t c.requires.filter_bound.2)) in
     let elem_fits : SFits w16 elem = fits (bd elem lift.small) tt in

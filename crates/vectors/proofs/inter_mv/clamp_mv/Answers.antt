@@ -48,18 +48,53 @@ num_8x8_wide-wide-requires c = (accepted c.before.before.before).size
 
 pub clamp_axis-row-requires : goal.clamp_axis-row-requires
 clamp_axis-row-requires c =
-    rw (rd w32 (rows c.before.before.before.before.before.before.before.before.before) tt, rd w32 (high c.before.before.before.before.before) tt, rd w32 (row c.before.before.before.before.before.before.before.before.before) tt)
-    (record { total_bound = ((rows c.before.before.before.before.before.before.before.before.before).le, (high c.before.before.before.before.before).le); first_bound = ((row c.before.before.before.before.before.before.before.before.before).le, c.shift-down.ensures.1); v_value = legal_row c.args.mv (accepted c.before.before.before.before.before.before.before.before.before).vector })
+    rw (
+      rd w32 (rows c.before.before.before.before.before.before.before.before.before) tt,
+      rd w32 (high c.before.before.before.before.before) tt,
+      rd w32 (row c.before.before.before.before.before.before.before.before.before) tt,
+    )
+    (record {
+      total_bound = ((rows c.before.before.before.before.before.before.before.before.before).le, (high c.before.before.before.before.before).le);
+      first_bound = ((row c.before.before.before.before.before.before.before.before.before).le, c.shift-down.ensures.1);
+      v_value = legal_row c.args.mv (accepted c.before.before.before.before.before.before.before.before.before).vector;
+    })
 
 pub clamp_axis-col-requires : goal.clamp_axis-col-requires
 clamp_axis-col-requires c =
-    rw (rd w32 (cols c.before.before.before.before.before.before.before.before.before.before.before.before.before.before) tt, rd w32 (wide c.before.before.before.before.before.before.before.before.before.before) tt, rd w32 (col c.before.before.before.before.before.before.before.before.before.before.before.before.before.before) tt)
-    (record { total_bound = ((cols c.before.before.before.before.before.before.before.before.before.before.before.before.before.before).le, (wide c.before.before.before.before.before.before.before.before.before.before).le); first_bound = ((col c.before.before.before.before.before.before.before.before.before.before.before.before.before.before).le, c.shift-across.ensures.1); v_value = legal_col c.args.mv (accepted c.before.before.before.before.before.before.before.before.before.before.before.before.before.before).vector })
+    rw (
+      rd w32 (cols c.before.before.before.before.before.before.before.before.before.before.before.before.before.before) tt,
+      rd w32 (wide c.before.before.before.before.before.before.before.before.before.before) tt,
+      rd w32 (col c.before.before.before.before.before.before.before.before.before.before.before.before.before.before) tt,
+    )
+    (record {
+      total_bound = (
+        (cols c.before.before.before.before.before.before.before.before.before.before.before.before.before.before).le,
+        (wide c.before.before.before.before.before.before.before.before.before.before).le,
+      );
+      first_bound = ((col c.before.before.before.before.before.before.before.before.before.before.before.before.before.before).le, c.shift-across.ensures.1);
+      v_value = legal_col c.args.mv (accepted c.before.before.before.before.before.before.before.before.before.before.before.before.before.before).vector;
+    })
 
 pub returns : goal.returns
 unfolding clamp_mv
 returns c =
-    let down = rw (rd w32 (rows c.before.before.before.before.before.before.before.before.before.before.before.before.before.before) tt, rd w32 (high c.before.before.before.before.before.before.before.before.before.before) tt, rd w32 (row c.before.before.before.before.before.before.before.before.before.before.before.before.before.before) tt) at c.clamp_axis-row.ensures in
-    let across = rw (rd w32 (cols c.before.before.before.before.before.before.before.before.before.before.before.before.before.before) tt, rd w32 (wide c.before.before.before.before.before.before.before.before.before.before) tt, rd w32 (col c.before.before.before.before.before.before.before.before.before.before.before.before.before.before) tt) at c.clamp_axis-col.ensures in
+    let down = rw (
+      rd w32 (rows c.before.before.before.before.before.before.before.before.before.before.before.before.before.before) tt,
+      rd w32 (high c.before.before.before.before.before.before.before.before.before.before) tt,
+      rd w32 (row c.before.before.before.before.before.before.before.before.before.before.before.before.before.before) tt,
+    ) at c.clamp_axis-row.ensures in
+    let across = rw (
+      rd w32 (cols c.before.before.before.before.before.before.before.before.before.before.before.before.before.before) tt,
+      rd w32 (wide c.before.before.before.before.before.before.before.before.before.before) tt,
+      rd w32 (col c.before.before.before.before.before.before.before.before.before.before.before.before.before.before) tt,
+    ) at c.clamp_axis-col.ensures in
     let heights = c.num_8x8_high-high.ensures.0 in
-    rw (zero c.before.before.before.before.before.before.before.before.before.before.before.before.before.before, down, across, heights, c.num_8x8_wide-wide.ensures.0, c.shift-down.ensures.0, c.shift-across.ensures.0)
+    rw (
+      zero c.before.before.before.before.before.before.before.before.before.before.before.before.before.before,
+      down,
+      across,
+      heights,
+      c.num_8x8_wide-wide.ensures.0,
+      c.shift-down.ensures.0,
+      c.shift-across.ensures.0,
+    )

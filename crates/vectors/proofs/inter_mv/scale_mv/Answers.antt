@@ -46,11 +46,19 @@ start_axis-start_y-requires c =
 
 pub step_axis-step_x-requires : goal.step_axis-step_x-requires
 step_axis-step_x-requires c =
-    rw (rd w32 (width c.before.before.before.before.before.before.before.before.before.before.before).0 tt, rd w32 (width c.before.before.before.before.before.before.before.before.before.before.before).1 tt) (accepted c.before.before.before.before.before.before.before.before.before.before.before).across
+    rw (
+      rd w32 (width c.before.before.before.before.before.before.before.before.before.before.before).0 tt,
+      rd w32 (width c.before.before.before.before.before.before.before.before.before.before.before).1 tt,
+    )
+    (accepted c.before.before.before.before.before.before.before.before.before.before.before).across
 
 pub step_axis-step_y-requires : goal.step_axis-step_y-requires
 step_axis-step_y-requires c =
-    rw (rd w32 (height c.before.before.before.before.before.before.before.before.before.before.before.before.before.before).0 tt, rd w32 (height c.before.before.before.before.before.before.before.before.before.before.before.before.before.before).1 tt) (accepted c.before.before.before.before.before.before.before.before.before.before.before.before.before.before).down
+    rw (
+      rd w32 (height c.before.before.before.before.before.before.before.before.before.before.before.before.before.before).0 tt,
+      rd w32 (height c.before.before.before.before.before.before.before.before.before.before.before.before.before.before).1 tt,
+    )
+    (accepted c.before.before.before.before.before.before.before.before.before.before.before.before.before.before).down
 
 pub returns : goal.returns
 unfolding scale_mv

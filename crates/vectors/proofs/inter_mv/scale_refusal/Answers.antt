@@ -36,4 +36,5 @@ returns c =
     let frame : SFits w32 g.frame_width = record { sfits = omega (arith, c.struct_told-2-1.given) } in
     rw (to_z-of_z reference, to_z-of_z frame) at c.usable.ensures in
     rw (c.unless-3.ensures, c.unless-2.ensures, c.unless-rest.ensures, c.unless.ensures)
-    (rows_same _ across-is (down_is c.before.before.before.before.before.before.before) (x-is c.before.before.before.before.before.before) (y-is c.before.before.before.before.before) c.is_legal16-vector.ensures)
+    (rows_same _ across-is (down_is c.before.before.before.before.before.before.before) (x-is c.before.before.before.before.before.before)
+    (y-is c.before.before.before.before.before) c.is_legal16-vector.ensures)

@@ -21,10 +21,12 @@ returns-then-no-ne0 c = let e = sym c.select_refusal-no.ensures in rw (e, ne_eqb
 pub chosen-mv-requires : goal.chosen-mv-requires
 chosen-mv-requires c =
     let zero : let x = c.args in answer (select_rows x.mvs x.plane x.size x.block x.sx x.sy) ≡ 0 = sym c.select_refusal-no.ensures ∙ c.if-no-ne0.false in
-    let accepted : let x = c.args in SelectOk x.mvs x.plane x.size x.block x.sx x.sy = let x = c.args in select_ok x.mvs x.plane x.size x.block x.sx x.sy zero in
+    let accepted : let x = c.args in SelectOk x.mvs x.plane x.size x.block x.sx x.sy = let x = c.args in
+    select_ok x.mvs x.plane x.size x.block x.sx x.sy zero in
     let x = c.args in
     let a = accepted in
-    rw c.list_number-list.ensures.0 (record { list_bound = (list_number_small x.second, a.block); sy_value = a.partner; list_value = legal-list x.mvs a.vectors x.second })
+    rw c.list_number-list.ensures.0
+    (record { list_bound = (list_number_small x.second, a.block); sy_value = a.partner; list_value = legal-list x.mvs a.vectors x.second })
 
 pub returns : goal.returns
 unfolding select_mv
