@@ -7,7 +7,7 @@ const PLACE: &str = "KNOBSPINDLE_LIB_DIR";
 
 fn refuse(why: &str) -> ! {
     eprintln!("knobspindle: {why}");
-    eprintln!("libhost.a is built by `rt staticlib host` in the root of Knobspindle's repository (it needs the Rattle kit);");
+    eprintln!("libhost.a is built by `tools/library` in the root of Knobspindle's repository (it needs the Rattle kit);");
     eprintln!("{PLACE} says in which folder it stands, if not in target/staticlib there.");
     std::process::exit(1);
 }

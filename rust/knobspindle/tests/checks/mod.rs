@@ -1,4 +1,4 @@
-//! Every call of the wrapper, accepted and refused. `tests/calls.rs` runs them as tests, `emulated.rs` from a C program.
+//! Every call of the wrapper, accepted and refused. `tests/calls.rs` runs them as tests.
 
 use knobspindle::*;
 
