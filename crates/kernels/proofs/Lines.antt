@@ -10,7 +10,7 @@ use lib.ListN.{length, get_or}
 use Rattle.base.specs.Paint.{fill}
 use Rattle.base.proofs.Painted.{fill_same, fill_at}
 use Rattle.taps.specs.Taps.{tap}
-use Rattle.taps.specs.Kernel.{apart, ran, ran_rows, stepped, clipped, seat, level, levels, held_from, onward, mean_of}
+use Rattle.taps.specs.Kernel.{apart, ran, ran_rows, stepped, clipped, seat, listed, level, levels, held_from, onward, mean_of}
 use Rattle.taps.proofs.Filtered.{filtered_same, filtered_whole}
 
 -- one phase, in steps of 16
@@ -64,3 +64,11 @@ pub mean_filled : (out line : List ℕ) (at w : ℕ) (f : ℕ → ℕ) (m : List
     → fill m at w (mean_of out at (onward (fill line 0 w f) 0)) ≡ fill m at w (mean_of out at f)
 unfolding mean_of onward
 mean_filled out line at w f m long = fill_same m at w _ _ (λ c cw. rw (fill_at line 0 w f (omega arith) c cw))
+
+-- a row from its column n on
+pub levels_on : (max : ℕ) (taps : ℕ → ℕ → ℤ) (row : List ℕ) (last start step n c : ℕ)
+    → levels max taps row last (start + step * n) step c ≡ levels max taps row last start step (n + c)
+unfolding levels
+levels_on max taps row last start step n c =
+    let e : start + step * n + step * c ≡ start + step * (n + c) = omega arith in
+    ap (λ (x : ℕ). level max taps (listed row) last x) e

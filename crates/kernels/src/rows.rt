@@ -5,9 +5,9 @@ ghost use Rattle.taps.specs.Taps.{filters, tap};
 ghost use Rattle.taps.specs.Filter.{filtered};
 ghost use Rattle.taps.specs.Kernel.{IsTaps, apart, stepped, alike, onward, held_from, Gathered, levels};
 
-use lanes::rows_across;
+use lanes::{first, rows_across};
 use sums::one;
-use taps::{Taps, fewer, row_clipped, run_copied, taps_at};
+use taps::{Taps, fewer, row_clipped, taps_at};
 
 // Eight samples from place s on, n apart: 1 in a row, 64 in a column of the room.
 fn window(l: &[u16], n: usize, s: usize, p: Taps, max: u16) -> u16
@@ -153,13 +153,13 @@ fn run_moved(row: &[u16], s: usize, n: usize, line: &mut [u16], at: usize)
         eight_moved(row, s, line, at);
         return;
     }
-    run_copied(row, s, n, line, at)
+    first(row, s, n, line, at)
 }
 
 // The samples of m lifted columns from b on, each column held into the plane: its first sample again and again, the row itself, its last.
 // Up to seven places past them are scratch.
 pub fn gather(row: &[u16], last: usize, b: usize, m: usize, line: &mut [u16], at: usize)
-    requires { (last < length row.now) × (b ≤ 400003) × (0 < m) × (m ≤ 136) × (at + m + 8 ≤ length line.old) }
+    requires { (last < length row.now) × (b ≤ 400067) × (0 < m) × (m ≤ 136) × (at + m + 8 ≤ length line.old) }
     ensures { Gathered line.old line.new at m (held_from row.now last b) }
 {
     let l = left_of(b, m);
@@ -200,7 +200,34 @@ fn row_line(
     rows_across(l, d, 0, p, w, max, 1, out, at, 0)
 }
 
-// A row of results near an edge, over a line of held samples.
+// A row of at most 32 results near an edge, over a line of held samples.
+fn few_gathered(
+    table: &[[[i16; 8]; 16]; 4],
+    p: Taps,
+    row: &[u16],
+    last: usize,
+    start: usize,
+    step: usize,
+    w: usize,
+    max: u16,
+    out: &mut [u16],
+    at: usize,
+)
+    requires table_value { table.now ≡ filters }
+    requires taps { IsTaps p }
+    requires filter_bound { (p.filter < 4) × (p.phase ≡ start % 16) × (last < length row.now) × (start ≤ 6401024) × (step ≤ 32) }
+    requires w_nonzero { (0 < w) × (w ≤ 32) × (at + w ≤ length out.old) }
+    requires max_bound { max ≤ 4095 }
+    ensures { out.new ≡ fill out.old at w (levels max (tap p.filter) row.now last start step) }
+{
+    let m = (start % 16 + step * (w - 1)) / 16 + 8;
+    // Of at most 256 bytes: the compiler has C's memset write zeros to a larger one first.
+    let mut line = [1u16; 80];
+    gather(row, last, start / 16, m, &mut line, 0);
+    row_line(table, p, &line, 0, step, w, max, out, at)
+}
+
+// A row of results near an edge: a wide one in two parts, so that the line is short.
 fn row_gathered(
     table: &[[[i16; 8]; 16]; 4],
     p: Taps,
@@ -220,11 +247,14 @@ fn row_gathered(
     requires max_bound { max ≤ 4095 }
     ensures { out.new ≡ fill out.old at w (levels max (tap p.filter) row.now last start step) }
 {
-    let m = (start % 16 + step * (w - 1)) / 16 + 8;
-    // Not of zeros, which the compiler would have C's memset write.
-    let mut line = [1u16; 144];
-    gather(row, last, start / 16, m, &mut line, 0);
-    row_line(table, p, &line, 0, step, w, max, out, at)
+    if w <= 32 {
+        few_gathered(table, p, row, last, start, step, w, max, out, at);
+        return;
+    }
+    few_gathered(table, p, row, last, start, step, 32, max, out, at);
+    let on = start + step * 32;
+    let q = taps_at(table, p.filter, on % 16);
+    few_gathered(table, q, row, last, on, step, w - 32, max, out, at + 32)
 }
 
 // A row of horizontal results: over the row itself where no column has to be held.

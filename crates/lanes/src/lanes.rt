@@ -359,8 +359,8 @@ fn few_moved(l: &[u16], s: usize, w: usize, out: &mut [u16], at: usize)
     out[at + 2] = l[s + 2];
 }
 
-// The samples from place s on.
-fn first(l: &[u16], s: usize, w: usize, out: &mut [u16], at: usize)
+// The samples from place s on, fewer than eight.
+pub fn first(l: &[u16], s: usize, w: usize, out: &mut [u16], at: usize)
     requires { (w < 8) × (s + w ≤ length l.now) × (at + w ≤ length out.old) }
     ensures { out.new ≡ fill out.old at w (onward l.now s) }
 {

@@ -22,7 +22,7 @@ fn phase_of(q: usize) -> u16
     (q % 16) as u16
 }
 
-// The horizontal pass in steps of 16 near an edge: eight rows at a time, over lines of held samples.
+// The horizontal pass in steps of 16 near an edge: row by row, over a line of held samples.
 fn pass_gathered<'a>(
     upper: &'a [u16],
     lower: &'a [u16],
@@ -46,11 +46,11 @@ fn pass_gathered<'a>(
 {
     let p = phase_of(start);
     let b = start / 16 + 3;
-    // Not of zeros, which the compiler would have C's memset write.
-    let mut lines = [1u16; 576];
+    // Of at most 256 bytes: the compiler has C's memset write zeros to a larger one first.
+    let mut lines = [1u16; 80];
     let mut done = 0;
     while done < n {
-        let m = fewer(n - done, 8);
+        let m = fewer(n - done, 1);
         gather_rows(
             upper,
             lower,
@@ -65,7 +65,7 @@ fn pass_gathered<'a>(
             &mut lines,
         );
         rows_any(&lines, 0, 71, p, w, max, m, room, done * rs, rs);
-        done += 8;
+        done += 1;
     }
 }
 
@@ -117,6 +117,51 @@ fn pass_even<'a>(
     )
 }
 
+// At most 32 results whose phase changes, over a line of held samples.
+fn few_gathered(
+    row: &[u16],
+    last: usize,
+    start: usize,
+    step: usize,
+    w: usize,
+    max: u16,
+    out: &mut [u16],
+    at: usize,
+)
+    requires { (last < length row.now) × (start ≤ 6401024) × (step ≤ 32) × (0 < w) × (w ≤ 32) × (at + w ≤ length out.old) }
+    ensures { out.new ≡ fill out.old at w (levels max (tap 3) row.now last start step) }
+{
+    let b = start / 16 + 3;
+    let m = (start % 16 + step * (w - 1)) / 16 + 2;
+    // Of at most 256 bytes: the compiler has C's memset write zeros to a larger one first.
+    let mut line = [1u16; 80];
+    gather(row, last, b, m, &mut line, 0);
+    row_stepped(&line, 0, start % 16, step, w, max, out, at)
+}
+
+// The same of any width: a wide one in two parts, so that the line is short.
+fn row_gathered(
+    row: &[u16],
+    last: usize,
+    start: usize,
+    step: usize,
+    w: usize,
+    max: u16,
+    out: &mut [u16],
+    at: usize,
+)
+    requires { (last < length row.now) × (start ≤ 6400000) × (step ≤ 32) × (0 < w) × (w ≤ 64) × (at + w ≤ length out.old) }
+    ensures { out.new ≡ fill out.old at w (levels max (tap 3) row.now last start step) }
+{
+    if w <= 32 {
+        few_gathered(row, last, start, step, w, max, out, at);
+        return;
+    }
+    few_gathered(row, last, start, step, 32, max, out, at);
+    let on = start + step * 32;
+    few_gathered(row, last, on, step, w - 32, max, out, at + 32)
+}
+
 // A row of horizontal results whose phase changes: over the row itself where no column has to be held.
 fn row_across(
     row: &[u16],
@@ -140,9 +185,7 @@ fn row_across(
             return;
         }
     }
-    let mut line = [1u16; 144];
-    gather(row, last, b, m, &mut line, 0);
-    row_stepped(&line, 0, start % 16, step, w, max, out, at)
+    row_gathered(row, last, start, step, w, max, out, at)
 }
 
 // The horizontal pass, row by row.

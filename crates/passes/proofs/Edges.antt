@@ -50,28 +50,28 @@ paint_more l stride w i (suc m) f g same =
 pub chunk_none : (l : List ℕ) (stride w n : ℕ) (f : ℕ → ℕ → ℕ) → Painting l stride w (min 0 n) f l
 chunk_none l stride w n f = let none : min 0 n ≡ 0 = omega arith in rw none (paint_none l stride w f)
 
-few : (i n m : ℕ) → i < n → m ≡ min (n - i) 8 → i + m ≡ min (i + 8) n
-few i n m lt e = omega arith
+few : (k i n m : ℕ) → i < n → m ≡ min (n - i) k → i + m ≡ min (i + k) n
+few k i n m lt e = omega arith
 
--- up to eight rows more of n
-pub chunk_turn : {l : List ℕ} {stride w i n : ℕ} {f : ℕ → ℕ → ℕ} {now next : List ℕ} (m : ℕ) (g : ℕ → ℕ → ℕ) → i < n → m ≡ min (n - i) 8
+-- up to k rows more of n
+pub chunk_turn : {l : List ℕ} {stride w i n : ℕ} {f : ℕ → ℕ → ℕ} {now next : List ℕ} (k m : ℕ) (g : ℕ → ℕ → ℕ) → i < n → m ≡ min (n - i) k
     → Painting l stride w (min i n) f now → next ≡ fill_rows now (i * stride) stride w m g
-    → ((r c : ℕ) → r < m → c < w → g r c ≡ f (i + r) c) → Painting l stride w (min (i + 8) n) f next
-chunk_turn {l} {stride} {w} {i} {n} {f} {now} {next} m g lt e s written same =
+    → ((r c : ℕ) → r < m → c < w → g r c ≡ f (i + r) c) → Painting l stride w (min (i + k) n) f next
+chunk_turn {l} {stride} {w} {i} {n} {f} {now} {next} k m g lt e s written same =
     let first : min i n ≡ i = omega arith in
     let before : now ≡ paint l stride w i f = s.is ∙ ap (λ (k : ℕ). paint l stride w k f) first in
-    let is : next ≡ paint l stride w (min (i + 8) n) f
+    let is : next ≡ paint l stride w (min (i + k) n) f
     = written ∙ ap (λ (x : List ℕ). fill_rows x (i * stride) stride w m g) before ∙ paint_more l stride w i m f g same
-    ∙ ap (λ (k : ℕ). paint l stride w k f) (few i n m lt e) in
-    record { is = is; long = ap length is ∙ length-paint l stride w (min (i + 8) n) f }
+    ∙ ap (λ (k : ℕ). paint l stride w k f) (few k i n m lt e) in
+    record { is = is; long = ap length is ∙ length-paint l stride w (min (i + k) n) f }
 
 -- they are inside the room
-pub chunk_fits : (n stride w len i m : ℕ) → holds n stride w len ≡ true → i < n → m ≡ min (n - i) 8 → i * stride + (m - 1) * stride + w ≤ len
-chunk_fits n stride w len i m h lt e =
+pub chunk_fits : (k n stride w len i m : ℕ) → holds n stride w len ≡ true → i < n → m ≡ min (n - i) k → i * stride + (m - 1) * stride + w ≤ len
+chunk_fits k n stride w len i m h lt e =
     let last : (i + (m - 1)) * stride + w ≤ len = holds_row n stride w len (i + (m - 1)) h (inside i n m lt e) in
     omega (arith, last, add-mul i (m - 1) stride)
   where
-    inside : (i n m : ℕ) → i < n → m ≡ min (n - i) 8 → i + (m - 1) < n
+    inside : (i n m : ℕ) → i < n → m ≡ min (n - i) k → i + (m - 1) < n
     inside i n m lt e = omega arith
 
 -- a pass from the lifted row y0 + i on

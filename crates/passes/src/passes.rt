@@ -12,7 +12,7 @@ use copies::{row_held, rows_copied};
 use kernels::{gather, held, row_across, row_down, row_down_mean};
 use lanes::{rows_across, rows_down};
 use planes::plane_row;
-use taps::{Taps, fewer, row_averaged, subpel_filters, taps_at, taps_of};
+use taps::{Taps, fewer, row_averaged, subpel_table, taps_at, taps_of};
 
 // The horizontal pass: n rows from the lifted row y0 on, w columns each.
 fn pass_across<'a>(
@@ -166,7 +166,7 @@ pub fn gather_rows<'a>(
     m: usize,
     lines: &mut [u16],
 )
-    requires b_bound { (b ≤ 400003) × (y0 ≤ 400137) × (n ≤ 8) × (0 < m) × (m ≤ 71) × (0 < pw) × (0 < ph) × (576 ≤ length lines.old) }
+    requires b_bound { (b ≤ 400003) × (y0 ≤ 400137) × (n ≤ 8) × (0 < m) × (m ≤ 71) × (0 < pw) × (0 < ph) × (71 * n + 8 ≤ length lines.old) }
     requires lower_value { fits (view pw ph stride k upper.now lower.now) ≡ true }
     ensures { HeldLines (view pw ph stride k upper.now lower.now) b y0 n m lines.new }
 {
@@ -179,7 +179,7 @@ pub fn gather_rows<'a>(
     }
 }
 
-// The horizontal pass in steps of 16 near an edge: eight rows at a time, over lines of held samples.
+// The horizontal pass in steps of 16 near an edge: row by row, over a line of held samples.
 fn pass_gathered<'a>(
     p: Taps,
     upper: &'a [u16],
@@ -205,11 +205,11 @@ fn pass_gathered<'a>(
         (across_from max (tap p.filter) (view pw ph stride k upper.now lower.now) start 16 y0) }
 {
     let b = start / 16;
-    // Not of zeros, which the compiler would have C's memset write.
-    let mut lines = [1u16; 576];
+    // Of at most 256 bytes: the compiler has C's memset write zeros to a larger one first.
+    let mut lines = [1u16; 80];
     let mut done = 0;
     while done < n {
-        let m = fewer(n - done, 8);
+        let m = fewer(n - done, 1);
         gather_rows(
             upper,
             lower,
@@ -224,7 +224,7 @@ fn pass_gathered<'a>(
             &mut lines,
         );
         rows_across(&lines, 0, 71, p, w, max, m, room, done * rs, rs);
-        done += 8;
+        done += 1;
     }
 }
 
@@ -332,10 +332,10 @@ pub fn pass_rows<'a>(
         );
         return;
     }
-    let table = subpel_filters();
-    let p = taps_at(&table, filter, start % 16);
+    let table = subpel_table();
+    let p = taps_at(table, filter, start % 16);
     pass_across(
-        &table, p, upper, lower, pw, ph, stride, k, start, step, y0, n, w, max, room, rs,
+        table, p, upper, lower, pw, ph, stride, k, start, step, y0, n, w, max, room, rs,
     )
 }
 
@@ -409,8 +409,8 @@ fn pass_down(
         pass_down_even(p, room, w, h, max, out, stride);
         return;
     }
-    let table = subpel_filters();
-    pass_down_stepped(&table, filter, room, start, step, w, h, max, out, stride)
+    let table = subpel_table();
+    pass_down_stepped(table, filter, room, start, step, w, h, max, out, stride)
 }
 
 // The vertical pass, averaged into the output.
@@ -594,6 +594,6 @@ pub fn block_mean<'a>(
         room,
         64,
     );
-    let table = subpel_filters();
-    pass_down_mean(&table, filter, room, sy, stepy, w, h, max, out, ostride)
+    let table = subpel_table();
+    pass_down_mean(table, filter, room, sy, stepy, w, h, max, out, ostride)
 }

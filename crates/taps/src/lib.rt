@@ -5,4 +5,4 @@ mod plain;
 mod taps;
 
 pub use plain::{fewer, lesser, row_averaged, row_clipped, run_copied, topped};
-pub use taps::{Taps, subpel_filters, taps_at, taps_of};
+pub use taps::{Taps, subpel_filters, subpel_table, taps_at, taps_of};

@@ -86,6 +86,13 @@ pub fn subpel_filters() -> [[[i16; 8]; 16]; 4]
     SUBPEL_FILTERS
 }
 
+// The same table, lent: handed over, it is laid out anew on the caller's stack.
+pub fn subpel_table() -> &'static [[[i16; 8]; 16]; 4]
+    ensures { result.now ≡ filters }
+{
+    &SUBPEL_FILTERS
+}
+
 // A row of the table, each tap with 24 added, so that none is below zero.
 #[derive(Clone, Copy)]
 pub struct Taps {

@@ -1,48 +1,22 @@
--- `kernels::rows::row_gathered` meets its contract: the line has the held samples. Assumes nothing.
-use mathlib.Core.Path.{◌≡◌, ◌∙◌}
-use Prim.Native.Nat.{◌-◌, ◌*◌, ◌%◌, ◌≤◌}
-use native.Mathlib.Nat.{mul-le-mul}
+-- `kernels::rows::row_gathered` meets its contract: the second part goes on where the first ends. Assumes nothing.
+use mathlib.Core.Path.{refl, ap, ◌∙◌}
+use Prim.Native.Nat.{◌+◌, ◌-◌}
 use native.Mathlib.Omega.{arith}
-use Rattle.base.proofs.Painted.{fill_same}
+use lib.ListN.{length}
+use Rattle.base.proofs.Painted.{length-fill}
 use Rattle.taps.specs.Taps.{tap}
-use Rattle.kernels.proofs.Lines.{line_is}
+use Rattle.taps.specs.Kernel.{levels}
+use Rattle.taps.proofs.Loops.{Filling}
+use Rattle.taps.proofs.Runs.{run_turn}
+use Rattle.kernels.proofs.Lines.{levels_on}
 use Rattle.kernels.proofs.rows.row_gathered.Goals as goal
-
-pub overflow_mul-m : goal.overflow_mul-m
-overflow_mul-m c =
-    let far : c.args.step * (c.args.w - 1) ≤ 32 * 63 = mul-le-mul {n₂ = 32} {m₂ = 63} (omega (arith, c.requires)) (omega (arith, c.requires)) in
-    omega (arith, far)
-
-pub overflow_add-m : goal.overflow_add-m
-overflow_add-m c =
-    let far : c.args.step * (c.args.w - 1) ≤ 32 * 63 = mul-le-mul {n₂ = 32} {m₂ = 63} (omega (arith, c.requires)) (omega (arith, c.requires)) in
-    omega (arith, far)
-
-pub overflow_add-m-2 : goal.overflow_add-m-2
-overflow_add-m-2 c =
-    let far : c.args.step * (c.args.w - 1) ≤ 32 * 63 = mul-le-mul {n₂ = 32} {m₂ = 63} (omega (arith, c.requires)) (omega (arith, c.requires)) in
-    omega (arith, far)
-
-pub gather-requires : goal.gather-requires
-gather-requires c =
-    let far : c.args.step * (c.args.w - 1) ≤ 32 * 63 = mul-le-mul {n₂ = 32} {m₂ = 63} (omega (arith, c.requires)) (omega (arith, c.requires)) in
-    omega (arith, far)
-
-pub row_line-requires : goal.row_line-requires
-row_line-requires c =
-    let far : c.args.step * (c.args.w - 1) ≤ 32 * 63 = mul-le-mul {n₂ = 32} {m₂ = 63} (omega (arith, c.requires)) (omega (arith, c.requires)) in
-    record {
-      table_value = c.requires.table_value;
-      taps = c.requires.taps;
-      filter_bound = omega (arith, c.requires, far, c.gather.ensures.len);
-      w_in_bounds = omega (arith, c.requires, far, c.gather.ensures.len);
-      max_bound = omega (arith, c.requires, far, c.gather.ensures.len);
-    }
 
 pub returns : goal.returns
 returns c =
     let a = c.args in
-    let e : a.p.phase ≡ a.start % 16 = c.requires.filter_bound.1 in
-    rw e at c.row_line.ensures
-    ∙ fill_same _ _ _ _ _
-    (line_is a.max (tap a.p.filter) a.row.now _ a.last a.start a.step a.w 0 c.gather.ensures.is)
+    let one = c.few_gathered-2.ensures in
+    let so : Filling a.out.now a.at 32 (levels a.max (tap a.p.filter) a.row.now a.last a.start a.step) _ =
+    record { is = one; long = ap length one ∙ length-fill _ _ _ _ } in
+    let two = rw c.taps_at-q.ensures.1 at c.few_gathered-3.ensures in
+    (run_turn (a.at + 32) (a.w - 32) a.w _ so refl (omega arith) two
+    (λ k kn. levels_on a.max (tap a.p.filter) a.row.now a.last a.start a.step 32 k)).is

@@ -8,4 +8,4 @@ pub returns-then-row-s-ge8 : goal.returns-then-row-s-ge8
 returns-then-row-s-ge8 c = gathered_less _ _ (gathered_fill _ 8 _ (omega arith) c.eight_moved.ensures) (omega arith) (λ k h. refl)
 
 pub returns : goal.returns
-returns c = gathered_fill _ _ _ (omega arith) c.run_copied.ensures
+returns c = gathered_fill _ _ _ (omega arith) c.first.ensures

@@ -37,14 +37,14 @@ pub overflow_mul-done : goal.overflow_mul-done
 overflow_mul-done c =
     let in_room : let a = c.args in let l = c.loop-done in
     l.done * a.rs + (c.fewer-m.result - 1) * a.rs + a.w ≤ length a.room.now = let a = c.args in
-    chunk_fits a.n a.rs a.w (length a.room.now) c.loop-done.done c.fewer-m.result c.requires.room_value (omega arith) c.fewer-m.ensures in
+    chunk_fits 1 a.n a.rs a.w (length a.room.now) c.loop-done.done c.fewer-m.result c.requires.room_value (omega arith) c.fewer-m.ensures in
     omega (arith, in_room, c.well_formed)
 
 pub rows_any-requires : goal.rows_any-requires
 rows_any-requires c =
     let in_room : let a = c.args in let l = c.loop-done in
     l.done * a.rs + (c.fewer-m.result - 1) * a.rs + a.w ≤ length a.room.now = let a = c.args in
-    chunk_fits a.n a.rs a.w (length a.room.now) c.loop-done.done c.fewer-m.result c.requires.room_value (omega arith) c.fewer-m.ensures in
+    chunk_fits 1 a.n a.rs a.w (length a.room.now) c.loop-done.done c.fewer-m.result c.requires.room_value (omega arith) c.fewer-m.ensures in
     let l = c.loop-done in
     record {
       p_bound = omega (arith, c.requires.start_bound, c.fewer-m.ensures, c.phase_of-p.ensures.1);
@@ -64,7 +64,7 @@ loop-done-preserved c =
     let v = view a.pw a.ph a.stride a.k a.upper.now a.lower.now in (
       omega arith,
       c.lines-in-loop-done-1.given,
-      chunk_turn c.fewer-m.result _ (omega arith) c.fewer-m.ensures l.invariant.2 (rw c.phase_of-p.ensures.0 at c.rows_any.ensures)
+      chunk_turn 1 c.fewer-m.result _ (omega arith) c.fewer-m.ensures l.invariant.2 (rw c.phase_of-p.ensures.0 at c.rows_any.ensures)
           (chunk_pair a.max v _ a.start a.y0 l.done a.w c.fewer-m.result c.gather_rows.ensures),
     )
 

@@ -41,20 +41,3 @@ returns-then-d-m c =
     (λ j jm.
     let f : a.start / 16 + 3 - 200003 + j ≡ min (a.start / 16 + 3 + j - 200003) a.last = omega (arith, low, high) in
     ap (λ (k : ℕ). get_or a.row.now k 0) f))
-
-pub gather-requires : goal.gather-requires
-gather-requires c =
-    let far : c.args.step * (c.args.w - 1) ≤ 32 * 63 = mul-le-mul {n₂ = 32} {m₂ = 63} (omega (arith, c.requires)) (omega (arith, c.requires)) in
-    omega (arith, far, c.requires)
-
-pub row_stepped-requires-2 : goal.row_stepped-requires-2
-row_stepped-requires-2 c =
-    let far : c.args.step * (c.args.w - 1) ≤ 32 * 63 = mul-le-mul {n₂ = 32} {m₂ = 63} (omega (arith, c.requires)) (omega (arith, c.requires)) in
-    omega (arith, c.requires, far, c.gather.ensures.len)
-
-pub returns : goal.returns
-returns c =
-    let a = c.args in
-    c.row_stepped-2.ensures
-    ∙ fill_same _ _ _ _ _
-    (line_pair a.max a.row.now _ a.last a.start a.step a.w 0 c.gather.ensures.is)

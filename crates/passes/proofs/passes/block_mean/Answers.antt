@@ -83,7 +83,7 @@ pass_down_mean-requires c =
     let held = room_held a.max (tap a.filter) plane a.sx a.stepx (a.sy / 16) a.w n a.room.now
     (omega (arith, c.requires.filter_bound)) (omega (arith, c.requires.filter_bound, c.requires.pw_nonzero, far)) in
     record {
-      table_value = c.subpel_filters-table.ensures;
+      table_value = c.subpel_table-table.ensures;
       filter_bound = omega (arith, c.requires.filter_bound, c.requires.pw_nonzero, c.requires.max_bound, long);
       out_value = c.requires.out_value;
       held_room = rw c.pass_rows-2.ensures held;

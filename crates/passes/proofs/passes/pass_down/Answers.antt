@@ -28,7 +28,7 @@ returns-then-step-eq16 c =
 pub pass_down_stepped-requires : goal.pass_down_stepped-requires
 pass_down_stepped-requires c =
     record {
-      table_value = c.subpel_filters-table.ensures;
+      table_value = c.subpel_table-table.ensures;
       filter_bound = omega (arith, c.requires.filter_bound);
       out_value = c.requires.out_value;
       held_room = c.requires.held_room;

@@ -1,6 +1,6 @@
 -- `passes::passes::pass_gathered` meets its contract. The loop keeps up that the first rows are painted, as many as are done. Assumes nothing.
 use mathlib.Core.Path.{◌≡◌}
-use Prim.Native.Nat.{◌+◌, ◌-◌, ◌≤◌, min}
+use Prim.Native.Nat.{◌-◌, ◌≤◌, min}
 use lib.ListN.{length}
 use Rattle.taps.specs.Taps.{tap}
 use Rattle.taps.proofs.Loops.{Painting}
@@ -10,7 +10,7 @@ use Rattle.passes.proofs.passes.pass_gathered.Given as goal
 
 abbrev pub invariant-loop-done : goal.invariant-loop-done
 invariant-loop-done l =
-    (l.done ≤ l.n + 7) × (length l.lines ≡ 576)
+    (l.done ≤ l.n) × (length l.lines ≡ 80)
     × Painting l.initial.room l.rs l.w (min l.done l.n) (across_from l.max (tap l.p.filter) (view l.pw l.ph l.stride l.k l.upper l.lower) l.start 16 l.y0)
     l.room
 

@@ -47,13 +47,13 @@ returns-then-step-eq16 c =
     rw q (rw c.taps_of-p.ensures.1 at c.pass_even.ensures)
 
 pub taps_at-p-requires : goal.taps_at-p-requires
-taps_at-p-requires c = record { table_value = c.subpel_filters-table.ensures; filter_bound = omega (arith, c.requires.filter_bound) }
+taps_at-p-requires c = record { table_value = c.subpel_table-table.ensures; filter_bound = omega (arith, c.requires.filter_bound) }
 
 pub pass_across-requires : goal.pass_across-requires
 pass_across-requires c =
     let e = c.taps_at-p.ensures in
     record {
-      table_value = c.subpel_filters-table.ensures;
+      table_value = c.subpel_table-table.ensures;
       taps = e.0;
       filter_bound = omega (arith, e.1, e.2, c.requires.filter_bound);
       pw_nonzero = omega (arith, c.requires.filter_bound);
