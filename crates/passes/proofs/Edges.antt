@@ -1,4 +1,4 @@
--- Rows gathered near an edge: lines of held samples, one line more, and a rectangle painted eight rows at a time over them. Assumes nothing.
+-- Rows gathered near an edge: lines of held samples, one line more, and a rectangle painted k rows at a time over them. Assumes nothing.
 use mathlib.Core.Path.{◌≡◌, refl, sym, ap, ◌∙◌}
 use mathlib.Core.List.{List}
 use mathlib.Core.Logic.{⊎_elim}

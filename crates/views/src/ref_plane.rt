@@ -142,7 +142,7 @@ pub fn read_row<'a>(
     RefPlane::new(upper, lower, width, height, stride, upper_rows).row(y, number)
 }
 
-// What reading row y would answer. It stands on a view, and its proof is like any other's: only what has a view in its hands is walked.
+// What reading row y would answer.
 pub fn row_answer<'a>(
     upper: &'a [u16],
     lower: &'a [u16],
