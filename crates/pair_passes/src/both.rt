@@ -13,7 +13,7 @@ use kernels::{gather, held};
 use pairs::{row_stepped, rows_any, rows_are_low, rows_low};
 use passes::{band_of, gather_rows, pass_rows, row_in, rows_averaged, unheld, whole};
 use planes::plane_row;
-use taps::{fewer, row_averaged};
+use taps::row_averaged;
 
 // The phase of a position: its sixteenths past a whole one.
 fn phase_of(q: usize) -> u16
@@ -50,7 +50,6 @@ fn pass_gathered<'a>(
     let mut lines = [1u16; 80];
     let mut done = 0;
     while done < n {
-        let m = fewer(n - done, 1);
         gather_rows(
             upper,
             lower,
@@ -60,11 +59,11 @@ fn pass_gathered<'a>(
             k,
             b,
             y0 + done,
-            m,
+            1,
             w + 1,
             &mut lines,
         );
-        rows_any(&lines, 0, 71, p, w, max, m, room, done * rs, rs);
+        rows_any(&lines, 0, 71, p, w, max, 1, room, done * rs, rs);
         done += 1;
     }
 }

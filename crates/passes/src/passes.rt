@@ -12,7 +12,7 @@ use copies::{row_held, rows_copied};
 use kernels::{gather, held, row_across, row_down, row_down_mean};
 use lanes::{rows_across, rows_down};
 use planes::plane_row;
-use taps::{Taps, fewer, row_averaged, subpel_table, taps_at, taps_of};
+use taps::{Taps, row_averaged, subpel_table, taps_at, taps_of};
 
 // The horizontal pass: n rows from the lifted row y0 on, w columns each.
 fn pass_across<'a>(
@@ -209,7 +209,6 @@ fn pass_gathered<'a>(
     let mut lines = [1u16; 80];
     let mut done = 0;
     while done < n {
-        let m = fewer(n - done, 1);
         gather_rows(
             upper,
             lower,
@@ -219,11 +218,11 @@ fn pass_gathered<'a>(
             k,
             b,
             y0 + done,
-            m,
+            1,
             w + 7,
             &mut lines,
         );
-        rows_across(&lines, 0, 71, p, w, max, m, room, done * rs, rs);
+        rows_across(&lines, 0, 71, p, w, max, 1, room, done * rs, rs);
         done += 1;
     }
 }

@@ -14,9 +14,6 @@ overflow_add-b c = omega arith
 pub loop-done-init : goal.loop-done-init
 loop-done-init c = (omega arith, refl, chunk_none _ _ _ _ _)
 
-pub overflow_sub-n : goal.overflow_sub-n
-overflow_sub-n c = omega arith
-
 pub overflow_add-y0 : goal.overflow_add-y0
 overflow_add-y0 c = omega (arith, c.requires.start_bound)
 
@@ -28,7 +25,7 @@ slice_bounds-gather_rows-end c = sym c.loop-done.invariant.1
 
 pub gather_rows-requires : goal.gather_rows-requires
 gather_rows-requires c =
-    record { b_bound = omega (arith, c.requires.start_bound, c.fewer-m.ensures, c.loop-done.invariant.1); lower_value = c.requires.lower_value }
+    record { b_bound = omega (arith, c.requires.start_bound, c.loop-done.invariant.1); lower_value = c.requires.lower_value }
 
 pub slice_bounds-rows_any-end : goal.slice_bounds-rows_any-end
 slice_bounds-rows_any-end c = sym c.lines-in-loop-done-1.given
@@ -36,19 +33,19 @@ slice_bounds-rows_any-end c = sym c.lines-in-loop-done-1.given
 pub overflow_mul-done : goal.overflow_mul-done
 overflow_mul-done c =
     let in_room : let a = c.args in let l = c.loop-done in
-    l.done * a.rs + (c.fewer-m.result - 1) * a.rs + a.w ≤ length a.room.now = let a = c.args in
-    chunk_fits 1 a.n a.rs a.w (length a.room.now) c.loop-done.done c.fewer-m.result c.requires.room_value (omega arith) c.fewer-m.ensures in
+    l.done * a.rs + (1 - 1) * a.rs + a.w ≤ length a.room.now = let a = c.args in
+    chunk_fits 1 a.n a.rs a.w (length a.room.now) c.loop-done.done 1 c.requires.room_value (omega arith) (omega arith) in
     omega (arith, in_room, c.well_formed)
 
 pub rows_any-requires : goal.rows_any-requires
 rows_any-requires c =
     let in_room : let a = c.args in let l = c.loop-done in
-    l.done * a.rs + (c.fewer-m.result - 1) * a.rs + a.w ≤ length a.room.now = let a = c.args in
-    chunk_fits 1 a.n a.rs a.w (length a.room.now) c.loop-done.done c.fewer-m.result c.requires.room_value (omega arith) c.fewer-m.ensures in
+    l.done * a.rs + (1 - 1) * a.rs + a.w ≤ length a.room.now = let a = c.args in
+    chunk_fits 1 a.n a.rs a.w (length a.room.now) c.loop-done.done 1 c.requires.room_value (omega arith) (omega arith) in
     let l = c.loop-done in
     record {
-      p_bound = omega (arith, c.requires.start_bound, c.fewer-m.ensures, c.phase_of-p.ensures.1);
-      w_in_bounds = (omega (arith, c.requires.start_bound, c.fewer-m.ensures, c.lines-in-loop-done-1.given), omega (arith, in_room, l.invariant.2.long));
+      p_bound = omega (arith, c.requires.start_bound, c.phase_of-p.ensures.1);
+      w_in_bounds = (omega (arith, c.requires.start_bound, c.lines-in-loop-done-1.given), omega (arith, in_room, l.invariant.2.long));
     }
 
 pub overflow_add-done : goal.overflow_add-done
@@ -64,8 +61,8 @@ loop-done-preserved c =
     let v = view a.pw a.ph a.stride a.k a.upper.now a.lower.now in (
       omega arith,
       c.lines-in-loop-done-1.given,
-      chunk_turn 1 c.fewer-m.result _ (omega arith) c.fewer-m.ensures l.invariant.2 (rw c.phase_of-p.ensures.0 at c.rows_any.ensures)
-          (chunk_pair a.max v _ a.start a.y0 l.done a.w c.fewer-m.result c.gather_rows.ensures),
+      chunk_turn 1 1 _ (omega arith) (omega arith) l.invariant.2 (rw c.phase_of-p.ensures.0 at c.rows_any.ensures)
+          (chunk_pair a.max v _ a.start a.y0 l.done a.w 1 c.gather_rows.ensures),
     )
 
 pub shape_of-room : goal.shape_of-room
