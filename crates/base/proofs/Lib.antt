@@ -9,3 +9,6 @@ pub mod Painted
 pub mod Table
 pub mod Tests
 pub mod Widen
+pub mod Rows
+pub mod Numbered
+pub mod Same

@@ -4,3 +4,4 @@ pub mod Number
 pub mod Position
 pub mod Paint
 pub mod Vector
+pub mod Refused

@@ -30,16 +30,9 @@ pub fn clip3(low: i32, high: i32, x: i32) -> i32
     }
 }
 
-// The same number with room for its products.
-pub fn wide(x: i32) -> i64
-    ensures { result ≡ x }
-{
-    x as i64
-}
-
 // x as an unsigned number; 0 for one below 0, which no accepted call has
 pub fn natural(x: i32) -> usize
     ensures { result ≡ to_n x }
 {
-    if x < 0 { 0 } else { x as usize }
+    usize::try_from(x).unwrap_or(0)
 }

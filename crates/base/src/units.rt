@@ -5,17 +5,17 @@ ghost use Rattle.base.specs.Vector as Vector;
 
 // Eighths of a luma sample: what candidate vectors count.
 #[repr(C)]
-#[derive(Clone, Copy)]
+#[derive(Clone, Copy, Debug, Default, PartialEq, Eq)]
 pub struct Eighth(pub i32);
 
 // Sixteenths of a plane sample: what clamped vectors, starts and steps count.
 #[repr(C)]
-#[derive(Clone, Copy)]
+#[derive(Clone, Copy, Debug, Default, PartialEq, Eq)]
 pub struct Sixteenth(pub i32);
 
 // A candidate, or a block's vector.
 #[repr(C)]
-#[derive(Clone, Copy)]
+#[derive(Clone, Copy, Debug, Default, PartialEq, Eq)]
 pub struct Mv {
     pub row: Eighth,
     pub col: Eighth,
@@ -23,10 +23,20 @@ pub struct Mv {
 
 // A clamped vector.
 #[repr(C)]
-#[derive(Clone, Copy)]
+#[derive(Clone, Copy, Debug, Default, PartialEq, Eq)]
 pub struct PlaneMv {
     pub row: Sixteenth,
     pub col: Sixteenth,
+}
+
+// Where a block starts in a reference's plane and how it steps from sample to sample.
+#[repr(C)]
+#[derive(Clone, Copy, Debug, Default, PartialEq, Eq)]
+pub struct Stepping {
+    pub start_x: Sixteenth,
+    pub start_y: Sixteenth,
+    pub step_x: Sixteenth,
+    pub step_y: Sixteenth,
 }
 
 // Row 9 of document 01: a component in -32767..32767.
@@ -40,10 +50,4 @@ pub fn is_legal_mv(v: Mv) -> bool
     ensures { result ≡ Vector.legal_mv v }
 {
     is_legal(v.row) & is_legal(v.col)
-}
-
-pub fn same_mv(a: Mv, b: Mv) -> bool
-    ensures { result ≡ Vector.same_mv a b }
-{
-    (a.row.0 == b.row.0) & (a.col.0 == b.col.0)
 }

@@ -14,7 +14,7 @@ use Rattle.taps.specs.Kernel.{seat, level}
 use Rattle.passes.specs.Lifted.{block_at}
 use Rattle.planes.specs.Plane.{view}
 use Rattle.blocks.specs.declared.block.BlockShape.{BlockShape}
-use Rattle.blocks.specs.declared.block.Stepping.{Stepping}
+use Rattle.base.specs.declared.units.Stepping.{Stepping}
 use Rattle.planes.specs.declared.plane.PlaneGeom.{PlaneGeom}
 use Rattle.taps.proofs.Filtered.{filtered_same, samples_same}
 

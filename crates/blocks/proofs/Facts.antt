@@ -1,6 +1,6 @@
 -- What the tests that a block passed say of its numbers, and what is painted by one reference and by two. Assumes nothing.
 use mathlib.Core.Path.{◌≡◌, ◌∙◌}
-use mathlib.Core.Bool.{true, false}
+use mathlib.Core.Bool.{true, false, ◌&&◌}
 use mathlib.Core.List.{List}
 use Prim.Native.Nat.{ℕ, ◌-◌, ◌≤◌}
 use native.Mathlib.Omega.{arith}
@@ -15,14 +15,15 @@ use Rattle.base.specs.Position.{to_n}
 use Rattle.base.proofs.Painted.{paint_same}
 use Rattle.base.proofs.Tests.{clash, and_both, and_four, within_both, between_abs}
 use Rattle.planes.specs.Plane.{width_of, height_of, sized}
-use Rattle.planes.proofs.Bands.{holds_row}
+use Rattle.planes.specs.declared.plane.PlaneGeom.{PlaneGeom}
+use Rattle.planes.proofs.Fitting.{holds_row}
 use Rattle.passes.specs.Lifted.{mean_with}
 use Rattle.passes.proofs.Blocks.{mean_painted}
 use Rattle.blocks.specs.Block.{Ref, Call, kind, starts, from_ref, value}
 use Rattle.blocks.specs.Passed.{Legal, Taken}
 use Rattle.blocks.specs.Sample.{blend}
 use Rattle.blocks.specs.declared.block.BlockShape.{BlockShape}
-use Rattle.blocks.specs.declared.block.Stepping.{Stepping}
+use Rattle.base.specs.declared.units.Stepping.{Stepping}
 
 -- a number in 1..m
 pub from_one : (m : ℕ) (z : ℤ) → Number.between (pos 1) (pos m) z ≡ true → (1 ≤ to_n z) × (to_n z ≤ m)
@@ -57,17 +58,28 @@ pub record Facts (b : BlockShape) (p : Ref) : Type 0 where
   pub height : 1 ≤ height_of p.lent.geom
   pub from : Near p.from
 
+pub size_says : (b : BlockShape) → (within 1 64 b.w && within 1 64 b.h) ≡ true → ((1 ≤ b.w) × (b.w ≤ 64)) × ((1 ≤ b.h) × (b.h ≤ 64))
+size_says b e =
+    let both = and_both (within 1 64 b.w) (within 1 64 b.h) e in
+    (within_both 1 64 b.w both.0, within_both 1 64 b.h both.1)
+
+pub sized_says : (g : PlaneGeom) → sized g ≡ true → (1 ≤ width_of g) × (1 ≤ height_of g)
+unfolding sized
+sized_says g e =
+    let both = and_both (Number.between (pos 1) (pos 65536) g.width) (Number.between (pos 1) (pos 65536) g.height) e in
+    ((from_one 65536 g.width both.0).0, (from_one 65536 g.height both.1).0)
+
 pub legal_says : (b : BlockShape) (p : Ref) → Legal b p → Facts b p
-unfolding kind sized
+unfolding kind
 legal_says b p l =
-    let block = and_both (within 1 64 b.w) (within 1 64 b.h) l.block in
-    let size = and_both (Number.between (pos 1) (pos 65536) p.lent.geom.width) (Number.between (pos 1) (pos 65536) p.lent.geom.height) l.plane in
+    let block = size_says b l.block in
+    let plane = sized_says p.lent.geom l.plane in
     record {
-      w = within_both 1 64 b.w block.0;
-      h = within_both 1 64 b.h block.1;
+      w = block.0;
+      h = block.1;
       filter = leb-true b.filter 3 (and_both _ _ l.filter).0;
-      width = (from_one 65536 p.lent.geom.width size.0).0;
-      height = (from_one 65536 p.lent.geom.height size.1).0;
+      width = plane.0;
+      height = plane.1;
       from = starts_near p.from l.from;
     }
 

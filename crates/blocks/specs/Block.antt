@@ -7,7 +7,7 @@ use Rattle.taps.specs.Taps.{tap}
 use Rattle.planes.specs.Plane.{Lent, plane, width_of, height_of}
 use Rattle.blocks.specs.Sample.{sample, blend}
 use Rattle.blocks.specs.declared.block.BlockShape.{BlockShape}
-use Rattle.blocks.specs.declared.block.Stepping.{Stepping}
+use Rattle.base.specs.declared.units.Stepping.{Stepping}
 
 -- a reference: its plane, where the block starts in it and how it steps
 pub record Ref : Type 0 where

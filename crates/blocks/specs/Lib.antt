@@ -1,3 +1,4 @@
 pub mod Sample
 pub mod Block
 pub mod Passed
+pub mod Referred

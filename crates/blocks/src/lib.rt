@@ -2,5 +2,8 @@
 #![tactic(auto)]
 
 mod block;
+mod reference;
 
-pub use block::{BlockShape, Stepping, predict_accepted, predict_one, predict_two};
+pub use base::Stepping;
+pub use block::{BlockShape, predict_accepted, predict_one, predict_two};
+pub use reference::Reference;

@@ -16,8 +16,7 @@ use Rattle.candidates.specs.Offers.{none, offers, run, of_target, bias_of, turne
 use Rattle.candidates.specs.Search.{if_inside, sub_place, same_place, other_place, prev_same, prev_other, all_offers, candidates}
 use Rattle.candidates.specs.Scan.{suits, covered, asked, offered, list_of, place_of, prev_of, sub_record, sub_place_at, nearest_of}
 use Rattle.records.specs.declared.geometry.MvRefGeometry.{MvRefGeometry}
-use Rattle.records.specs.declared.geometry.Spot.{Spot}
-use Rattle.records.specs.declared.geometry.Spot.TheVariants.{Out, Cell}
+use Rattle.std.specs.Prelude.{Option, Some, None}
 use Rattle.candidates.specs.declared.held.Held.{Held}
 use Rattle.candidates.specs.declared.scan.Ask.{Ask}
 use Rattle.candidates.proofs.Folds.{offers_append}
@@ -66,9 +65,9 @@ unfolding run
 run_same f g e zero k = refl
 run_same f g e (suc n) k = rw (e k, run_same f g e n (suc k))
 
-inside_same : (f g : ℕ → List Mv) → ((i : ℕ) → f i ≡ g i) → (s : Spot) → if_inside f s ≡ if_inside g s
-inside_same f g e Out = refl
-inside_same f g e (Cell i) = e i
+inside_same : (f g : ℕ → List Mv) → ((i : ℕ) → f i ≡ g i) → (s : Option ℕ) → if_inside f s ≡ if_inside g s
+inside_same f g e None = refl
+inside_same f g e (Some i) = e i
 
 module _ (t : Tables) (g : MvRefGeometry) (target : ℤ) (bias : List Bool) where
   same_place_lem : (k : ℕ) → place_of t.frames t.mvs g (ask target bias false) k ≡ same_place t g target k
@@ -91,7 +90,7 @@ module _ (t : Tables) (g : MvRefGeometry) (target : ℤ) (bias : List Bool) wher
   unfolding prev_of prev_other
   prev_other_is on = rw (others_is t.prev_frames t.prev_mvs target bias (own g))
 
-  pub nearest_is : (near : List (List ℤ)) (one two : Spot) (block : ℤ)
+  pub nearest_is : (near : List (List ℤ)) (one two : Option ℕ) (block : ℤ)
       → near ≡ get_or places g.mi_size [] → one ≡ spot g 0 → two ≡ spot g 1
       → nearest_of t.frames t.subs near one two target block ≡ run (sub_place t g target block) 2 0
   unfolding nearest_of run sub_place sub_place_at sub_record offset

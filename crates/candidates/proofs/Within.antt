@@ -20,8 +20,7 @@ use Rattle.records.specs.Records.{up_to, legal_part, legal_parts, legal_frame, l
 use Rattle.candidates.specs.Offers.{none, offer, offers, run, of_target, sub_number, turned, wanted, other_of, others, bias_of}
 use Rattle.candidates.specs.Search.{if_inside, sub_place, same_place, other_place, prev_same, prev_other, all_offers, candidates}
 use Rattle.records.specs.declared.geometry.MvRefGeometry.{MvRefGeometry}
-use Rattle.records.specs.declared.geometry.Spot.{Spot}
-use Rattle.records.specs.declared.geometry.Spot.TheVariants.{Out, Cell}
+use Rattle.std.specs.Prelude.{Option, Some, None}
 use Rattle.candidates.specs.declared.held.Held.{Held}
 use Rattle.records.proofs.Joined.{passed}
 use Rattle.candidates.proofs.Numbers.{number_small}
@@ -113,29 +112,29 @@ unfolding legal_record
 record_tests t i = passed (leb (get_or t.modes i 0) 13) (legal_pair t.frames t.mvs i ∷ legal_parts t.subs (16 * i) 16 ∷ [])
 
 module _ (t : Tables) (g : MvRefGeometry) (target : ℤ) where
-  sub-all : (block : ℤ) (k : ℕ) (s : Spot) → legal_spot t s ≡ true
+  sub-all : (block : ℤ) (k : ℕ) (s : Option ℕ) → legal_spot t s ≡ true
       → All
       (if_inside (λ (i : ℕ). of_target t.frames target i (λ (list : ℕ). sub_at t.subs i list (sub_number block (offset g.mi_size k 1)))) s)
   unfolding legal_spot
-  sub-all block k Out e = nil
-  sub-all block k (Cell i) e =
+  sub-all block k None e = nil
+  sub-all block k (Some i) e =
       let b = sub_number block (offset g.mi_size k 1) in
       let few = number_small block (offset g.mi_size k 1) in
       let legal = record_tests t i e 2 in
       of_target_all t.frames target i (λ (list : ℕ). sub_at t.subs i list b)
       (sub_small t.subs i 0 b legal (omega arith) few) (sub_small t.subs i 1 b legal (omega arith) few)
 
-  same_all : (s : Spot) → legal_spot t s ≡ true → All (if_inside (λ (i : ℕ). of_target t.frames target i (mv_at t.mvs i)) s)
+  same_all : (s : Option ℕ) → legal_spot t s ≡ true → All (if_inside (λ (i : ℕ). of_target t.frames target i (mv_at t.mvs i)) s)
   unfolding legal_spot
-  same_all Out e = nil
-  same_all (Cell i) e =
+  same_all None e = nil
+  same_all (Some i) e =
       let legal = pair_parts t.frames t.mvs i (record_tests t i e 1) in
       of_target_all t.frames target i (mv_at t.mvs i) (mv_small t.mvs i 0 legal (omega arith)) (mv_small t.mvs i 1 legal (omega arith))
 
-  other_all : (bias : List Bool) (s : Spot) → legal_spot t s ≡ true → All (if_inside (others t.frames t.mvs target bias) s)
+  other_all : (bias : List Bool) (s : Option ℕ) → legal_spot t s ≡ true → All (if_inside (others t.frames t.mvs target bias) s)
   unfolding legal_spot
-  other_all bias Out e = nil
-  other_all bias (Cell i) e = others_all t.frames t.mvs target bias i (pair_parts t.frames t.mvs i (record_tests t i e 1))
+  other_all bias None e = nil
+  other_all bias (Some i) e = others_all t.frames t.mvs target bias i (pair_parts t.frames t.mvs i (record_tests t i e 1))
 
 -- ---- the whole search
 

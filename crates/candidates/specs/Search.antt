@@ -1,18 +1,16 @@
 -- The search over the places, in document 01's three steps ('Vectors', 1 to 3; the standard's 6.5.1). Assumes nothing.
-use Rattle.std.specs.Prelude.{ℕ, ◌+◌, Bool, cond, List, [], ◌++◌, ℤ, get_or}
+use Rattle.std.specs.Prelude.{ℕ, ◌+◌, Bool, cond, Option, Some, None, List, [], ◌++◌, ℤ, get_or}
 use Rattle.base.specs.declared.units.Mv.{Mv}
 use Rattle.places.specs.Places.{offset, counters, contexts}
 use Rattle.records.specs.Tables.{Tables, mv_at, sub_at, spot, own}
 use Rattle.candidates.specs.Offers.{none, offers, run, of_target, sub_number, others}
 use Rattle.records.specs.declared.geometry.MvRefGeometry.{MvRefGeometry}
-use Rattle.records.specs.declared.geometry.Spot.{Spot}
-use Rattle.records.specs.declared.geometry.Spot.TheVariants.{Out, Cell}
 use Rattle.candidates.specs.declared.held.Held.{Held}
 
 -- what a place offers, given what its record offers; a place that is not inside offers nothing
-abbrev pub if_inside : (ℕ → List Mv) → Spot → List Mv
-if_inside at Out = []
-if_inside at (Cell i) = at i
+abbrev pub if_inside : (ℕ → List Mv) → Option ℕ → List Mv
+if_inside at None = []
+if_inside at (Some i) = at i
 
 -- step 1, places one and two: sub-vectors
 unfoldable pub sub_place : Tables → MvRefGeometry → ℤ → ℤ → ℕ → List Mv
@@ -49,9 +47,9 @@ unfoldable pub candidates : Tables → MvRefGeometry → ℤ → ℤ → List Bo
 candidates t g target block bias use_prev = offers none (all_offers t g target block bias use_prev)
 
 -- step 1: "Places one and two, if inside, each add their mode's counter"
-unfoldable pub counted : Tables → Spot → ℕ
-counted t Out = 0
-counted t (Cell i) = get_or counters (get_or t.modes i 0) 0
+unfoldable pub counted : Tables → Option ℕ → ℕ
+counted t None = 0
+counted t (Some i) = get_or counters (get_or t.modes i 0) 0
 
 unfoldable pub context : Tables → MvRefGeometry → ℕ
 context t g = get_or contexts (counted t (spot g 0) + counted t (spot g 1)) 0

@@ -7,4 +7,4 @@ mod scan;
 mod sub_block;
 
 pub use find::{Found, search};
-pub use held::{Held, add, none_held};
+pub use held::Held;

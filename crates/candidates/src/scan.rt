@@ -1,15 +1,14 @@
 // The offers of whole vectors: document 01, 'Vectors', steps 2 and 3, which differ only in what they ask of a list.
-ghost use Rattle.std.specs.Prelude.{true, [], ◌≡◌, ◌+◌, ◌-◌, ◌≤◌, ◌<◌, neg_ℤ, get_or};
+ghost use Rattle.std.specs.Prelude.{◌≡◌, ◌+◌, ◌-◌, ◌≤◌, ◌<◌, neg_ℤ};
 ghost use Rattle.base.specs.Vector.{mv};
-ghost use Rattle.places.specs.Places as Places;
 ghost use Rattle.records.specs.Lent as Lent;
-ghost use Rattle.records.specs.Tables as Tables;
+ghost use Rattle.records.specs.Seen as Seen;
 ghost use Rattle.candidates.specs.Offers as Offers;
 ghost use Rattle.candidates.specs.Scan as Scan;
 
 use crate::held::Held;
 use base::{Eighth, Mv};
-use records::{MvRefGeometry, Spot};
+use records::{Pairs, Site};
 
 // What a scan asks of a list: the target frame in step 2, another frame in step 3.
 #[derive(Clone, Copy)]
@@ -30,25 +29,25 @@ fn suits(ask: Ask, frame: i32) -> bool
 }
 
 // List 0 leaves nothing for list 1: "The first list" alone offers in step 2, and step 3 skips list 1 "when both lists' vectors were equal".
-fn covered(frames: &[i8], mvs: &[i16], i: usize, ask: Ask) -> bool
-    requires { Lent.Pairs (i + 1) frames.now mvs.now }
-    ensures { result ≡ Scan.covered frames.now mvs.now ask i }
+fn covered(pairs: Pairs, i: usize, ask: Ask) -> bool
+    requires { Lent.PairRoom (i + 1) pairs }
+    ensures { result ≡ Scan.covered pairs.entry.frames.now pairs.entry.mvs.now ask i }
 {
     if ask.other {
-        base::same_mv(records::mv_at(mvs, i, 0), records::mv_at(mvs, i, 1))
+        pairs.mv_at(i, 0) == pairs.mv_at(i, 1)
     } else {
-        records::frame_at(frames, i, 0) == ask.target
+        pairs.frame_at(i, 0) == ask.target
     }
 }
 
-fn asked(frames: &[i8], mvs: &[i16], i: usize, list: usize, ask: Ask) -> bool
-    requires pairs { Lent.Pairs (i + 1) frames.now mvs.now }
-    requires list_bound { list < 2 }
-    ensures { result ≡ Scan.asked frames.now mvs.now ask i list }
+fn asked(pairs: Pairs, i: usize, list: usize, ask: Ask) -> bool
+    requires room { Lent.PairRoom (i + 1) pairs }
+    requires list { list < 2 }
+    ensures { result ≡ Scan.asked pairs.entry.frames.now pairs.entry.mvs.now ask i list }
 {
-    if suits(ask, records::frame_at(frames, i, list)) {
+    if suits(ask, pairs.frame_at(i, list)) {
         if list == 1 {
-            !covered(frames, mvs, i, ask)
+            !covered(pairs, i, ask)
         } else {
             true
         }
@@ -88,87 +87,60 @@ fn turned(ask: Ask, frame: i32, v: Mv) -> Mv
     }
 }
 
-fn offered(frames: &[i8], mvs: &[i16], i: usize, list: usize, ask: Ask) -> Mv
-    requires pairs { Lent.Pairs (i + 1) frames.now mvs.now }
-    requires list_bound { list < 2 }
-    ensures { result ≡ Scan.offered frames.now mvs.now ask i list }
+fn offered(pairs: Pairs, i: usize, list: usize, ask: Ask) -> Mv
+    requires room { Lent.PairRoom (i + 1) pairs }
+    requires list { list < 2 }
+    ensures { result ≡ Scan.offered pairs.entry.frames.now pairs.entry.mvs.now ask i list }
 {
-    turned(
-        ask,
-        records::frame_at(frames, i, list),
-        records::mv_at(mvs, i, list),
-    )
+    turned(ask, pairs.frame_at(i, list), pairs.mv_at(i, list))
 }
 
-// Places from `from` on, left as soon as the second candidate is stored: further offers would change nothing.
-pub(crate) fn scan(
-    frames: &[i8],
-    mvs: &[i16],
-    near: [[i8; 2]; 8],
-    g: MvRefGeometry,
-    from: usize,
-    ask: Ask,
-    held: Held,
-) -> Held
-    requires g_value { (Tables.grid_ok g ≡ true) × (near ≡ get_or Places.places g.mi_size []) × (from ≤ 8) }
-    requires pairs { Lent.Pairs (Lent.cells g) frames.now mvs.now }
-    ensures { result ≡ Offers.offers held (Offers.run (Scan.place_of frames.now mvs.now g ask) (8 - from) from) }
+#[inline(always)]
+fn one_list(pairs: Pairs, i: usize, list: usize, ask: Ask, h: Held) -> Held
+    requires room { Lent.PairRoom (i + 1) pairs }
+    requires list { list < 2 }
+    ensures { result ≡ Offers.offers h (Scan.list_of pairs.entry.frames.now pairs.entry.mvs.now ask i list) }
 {
-    let mut h = held;
-    let mut k = from;
-    'places: while k < 8 {
-        let s = records::spot_of(near, g, k);
-        match s {
-            Spot::Out => {}
-            Spot::Cell(i) => {
-                let mut list = 0;
-                while list < 2 {
-                    if asked(frames, mvs, i, list, ask) {
-                        h = crate::held::add(h, offered(frames, mvs, i, list, ask));
-                        let n = h.count;
-                        if n == 2 {
-                            break 'places;
-                        }
-                    }
-                    list += 1;
-                }
-            }
-        }
-        k += 1;
-    }
-    h
-}
-
-fn one_list(frames: &[i8], mvs: &[i16], i: usize, list: usize, ask: Ask, h: Held) -> Held
-    requires pairs { Lent.Pairs (i + 1) frames.now mvs.now }
-    requires list_bound { list < 2 }
-    ensures { result ≡ Offers.offers h (Scan.list_of frames.now mvs.now ask i list) }
-{
-    if asked(frames, mvs, i, list, ask) {
-        crate::held::add(h, offered(frames, mvs, i, list, ask))
+    if asked(pairs, i, list, ask) {
+        h.add(offered(pairs, i, list, ask))
     } else {
         h
     }
 }
 
-// The block's own previous record, if the previous frame is used.
-pub(crate) fn previous(
-    prev_frames: &[i8],
-    prev_mvs: &[i16],
-    g: MvRefGeometry,
-    use_prev: bool,
-    ask: Ask,
-    held: Held,
-) -> Held
-    requires g_value { Tables.grid_ok g ≡ true }
-    requires prev_room { Lent.PrevRoom use_prev (Lent.cells g) prev_frames.now prev_mvs.now }
-    ensures { result ≡ Offers.offers held (Scan.prev_of prev_frames.now prev_mvs.now g ask use_prev) }
+// Places from `from` on, left as soon as two candidates are held: further offers would change nothing.
+pub(crate) fn scan(pairs: Pairs, site: Site, from: usize, ask: Ask, held: Held) -> Held
+    requires from { from ≤ 8 }
+    requires room { Lent.PairRoom (Lent.cells site.geometry) pairs }
+    ensures { result ≡ Offers.offers held
+        (Offers.run (Scan.place_of pairs.entry.frames.now pairs.entry.mvs.now site.geometry ask) (8 - from) from) }
 {
-    if use_prev {
-        let i = records::own(g);
-        let h = one_list(prev_frames, prev_mvs, i, 0, ask, held);
-        one_list(prev_frames, prev_mvs, i, 1, ask, h)
-    } else {
-        held
+    let mut h = held;
+    for k in from..8 {
+        if let Some(i) = site.spot(k) {
+            for list in 0..2 {
+                h = one_list(pairs, i, list, ask, h);
+                if h.count == 2 {
+                    return h;
+                }
+            }
+        }
+    }
+    h
+}
+
+// The block's own previous record, if the previous frame is used.
+pub(crate) fn previous(prev: Option<Pairs>, site: Site, ask: Ask, held: Held) -> Held
+    requires { Lent.PrevRoom (Lent.cells site.geometry) prev }
+    ensures { result ≡ Offers.offers held
+        (Scan.prev_of (Seen.frames_of prev.entry) (Seen.mvs_of prev.entry) site.geometry ask (Seen.is_used prev.entry)) }
+{
+    match prev {
+        None => held,
+        Some(pairs) => {
+            let i = site.own();
+            let h = one_list(pairs, i, 0, ask, held);
+            one_list(pairs, i, 1, ask, h)
+        }
     }
 }

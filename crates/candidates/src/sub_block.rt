@@ -21,5 +21,5 @@ pub(crate) fn sub_number(block: i32, offset: i32) -> usize
     }
     let b = base::natural(block);
     let c = column_of(offset);
-    IDX_N_COLUMN_TO_SUBBLOCK[b][c] as usize
+    usize::from(IDX_N_COLUMN_TO_SUBBLOCK[b][c])
 }

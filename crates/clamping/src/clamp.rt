@@ -3,6 +3,7 @@ ghost use Rattle.std.specs.Prelude.{◌≡◌, true, ◌≤◌, ◌<◌, nat_abs
 ghost use Rattle.base.specs.Vector as Vector;
 ghost use Rattle.clamping.specs.Clamp as Clamp;
 
+use crate::axis::Axis;
 use base::{Eighth, Sixteenth};
 
 pub fn shift(plane: usize, sub: bool) -> u32
@@ -28,20 +29,21 @@ fn margin(n: i32, s: u32) -> i32
     (4 + ((n * 8) >> s)) * 16
 }
 
-// The only step from eighths to sixteenths.
-pub fn clamp_axis(total: i32, n: i32, first: i32, v: Eighth, s: u32) -> Sixteenth
-    requires total_bound { (nat_abs total ≤ 8192) × (nat_abs n ≤ 8) }
-    requires first_bound { (nat_abs first ≤ 8192) × (s < 2) }
-    requires v_value { Vector.legal v ≡ true }
-    ensures { result ≡ Vector.sixteenth (Clamp.clamp_axis total n first v.0 s) }
-{
-    let near = edge(0 - first, s);
-    let far = edge(total - n - first, s);
-    let room = margin(n, s);
-    let low = near - room;
-    let high = far + (room - 16);
-    let x = (2 * v.0) >> s;
-    Sixteenth(base::clip3(low, high, x))
+impl Axis {
+    // The only step from eighths to sixteenths.
+    pub fn clamp(self, v: Eighth, s: u32) -> Sixteenth
+        requires shifted { s < 2 }
+        requires legal { Vector.legal v ≡ true }
+        ensures { result ≡ Vector.sixteenth (Clamp.clamp_axis self.total self.length self.first v.0 s) }
+    {
+        let near = edge(0 - self.first, s);
+        let far = edge(self.total - self.length - self.first, s);
+        let room = margin(self.length, s);
+        let low = near - room;
+        let high = far + (room - 16);
+        let x = (2 * v.0) >> s;
+        Sixteenth(base::clip3(low, high, x))
+    }
 }
 
 pub fn on_axis(total: i32, first: i32) -> bool

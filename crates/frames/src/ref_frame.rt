@@ -1,10 +1,12 @@
 // A reference as the whole prediction sees it: one plane's two bands beside the size of the frame, from which the plane's own size follows.
 ghost use Rattle.std.specs.Prelude.{◌≡◌};
+ghost use Rattle.base.specs.Refused.{told};
+ghost use Rattle.judgement.specs.Seen.{seen};
 ghost use Rattle.prediction.specs.Predict.{whole, Outcome};
 ghost use Rattle.frames.specs.Seen.{frame_source};
 
-use base::Eighth;
-use judgement::{DestGeom, FrameGeom, InterPredArgs, RefGeom};
+use base::{Mv, Refusal};
+use judgement::{DestGeom, FrameGeom, InterPredArgs, RefGeom, RefSource};
 use vectors::BlockGrid;
 
 // The bands of the plane that is lent, the frame's size in luma samples, the distance between rows, and how many rows the upper band has.
@@ -45,6 +47,23 @@ impl<'a> RefFrame<'a> {
             upper_rows,
         }
     }
+
+    // The reference as the whole prediction takes it.
+    fn source(self) -> RefSource<'a>
+        ensures { seen result ≡ frame_source self.entry }
+    {
+        let geom = RefGeom {
+            frame_width: self.frame_width,
+            frame_height: self.frame_height,
+            stride: self.stride,
+            upper_rows: self.upper_rows,
+        };
+        RefSource {
+            geom,
+            upper: self.upper,
+            lower: self.lower,
+        }
+    }
 }
 
 // The whole prediction of a block, from a view for each list; the second is looked at only when averaging.
@@ -52,30 +71,25 @@ pub fn predict_inter<'a>(
     args: InterPredArgs,
     grid: BlockGrid,
     frame: FrameGeom,
-    mvs: [[[Eighth; 2]; 4]; 2],
+    mvs: [[Mv; 4]; 2],
     one: RefFrame<'a>,
     two: RefFrame<'a>,
     room: &mut [u16],
     out: &mut [u16],
     dest: DestGeom,
-) -> u32
+) -> Result<(), Refusal>
     ensures { Outcome (whole args grid frame mvs (frame_source one.entry) (frame_source two.entry) dest)
-        out.old room.old result out.new room.new }
+        out.old room.old (told result) out.new room.new }
 {
-    let size = RefGeom {
-        frame_width: one.frame_width,
-        frame_height: one.frame_height,
-        stride: one.stride,
-        upper_rows: one.upper_rows,
-    };
-    let size2 = RefGeom {
-        frame_width: two.frame_width,
-        frame_height: two.frame_height,
-        stride: two.stride,
-        upper_rows: two.upper_rows,
-    };
     prediction::predict_inter(
-        args, grid, frame, mvs, size, one.upper, one.lower, size2, two.upper, two.lower, room, out,
+        args,
+        grid,
+        frame,
+        mvs,
+        one.source(),
+        two.source(),
+        room,
+        out,
         dest,
     )
 }

@@ -1,24 +1,15 @@
 -- What crosses the C boundary in another form than a call takes or gives it: a block's vectors, and the row read. Assumes nothing.
-use Rattle.std.specs.Prelude.{ℕ, cond, List, [], ◌∷◌, eqb, get_or}
+use Rattle.std.specs.Prelude.{ℕ, cond, List, [], ◌∷◌, eqb}
 use Rattle.base.specs.Answer.{answer}
-use Rattle.base.specs.Vector.{zero_mv}
-use Rattle.base.specs.declared.units.Eighth.{Eighth}
 use Rattle.base.specs.declared.units.Mv.{Mv}
 use Rattle.planes.specs.Plane.{Lent, read_rows, width_of, above, first_of}
 use Rattle.planes.specs.declared.plane.PlaneGeom.{PlaneGeom}
 use Rattle.host.specs.declared.samples_c.RowPlace.{RowPlace}
 use Rattle.host.specs.declared.vectors_c.BlockMvs.{BlockMvs}
 
--- row and column
-abbrev pub parts : Mv → List Eighth
-parts v = v.row ∷ v.col ∷ []
-
--- sub-blocks 0..3
-abbrev pub list : List Mv → List (List Eighth)
-list l = parts (get_or l 0 zero_mv) ∷ parts (get_or l 1 zero_mv) ∷ parts (get_or l 2 zero_mv) ∷ parts (get_or l 3 zero_mv) ∷ []
-
-abbrev pub lists : BlockMvs → List (List (List Eighth))
-lists m = list m.list0 ∷ list m.list1 ∷ []
+-- list, then sub-block
+abbrev pub lists : BlockMvs → List (List Mv)
+lists m = m.list0 ∷ m.list1 ∷ []
 
 -- where an accepted row y stands, as planes/specs/Plane.antt has it: the band as 0 (upper) or 1, its first sample there, how many it has
 unfoldable pub row_spot : PlaneGeom → ℕ → RowPlace

@@ -4,8 +4,9 @@ ghost use Rattle.host.specs.InC as InC;
 ghost use Rattle.reach_inter.specs.InterReach.{inter_reach};
 ghost use Rattle.prediction.specs.Predict.{source, whole, Outcome};
 
-use crate::vectors_c::{BlockMvs, lists};
-use judgement::{DestGeom, FrameGeom, InterPredArgs, RefGeom};
+use crate::vectors_c::BlockMvs;
+use base::told;
+use judgement::{DestGeom, FrameGeom, InterPredArgs, RefGeom, RefSource};
 use samples::Reach;
 use vectors::BlockGrid;
 
@@ -30,10 +31,13 @@ pub extern "C" fn knobspindle_predict_inter<'a>(
         (source geom2 upper2.now lower2.now) dest)
         out.old room.old result out.new room.new }
 {
-    let of = lists(mvs);
-    prediction::predict_inter(
-        args, grid, frame, of, geom, upper, lower, geom2, upper2, lower2, room, out, dest,
-    )
+    let one = RefSource { geom, upper, lower };
+    let two = RefSource {
+        geom: geom2,
+        upper: upper2,
+        lower: lower2,
+    };
+    told(prediction::predict_inter(args, grid, frame, mvs.lists(), one, two, room, out, dest))
 }
 
 #[unsafe(no_mangle)]
@@ -48,6 +52,6 @@ pub extern "C" fn knobspindle_inter_reach(
 ) -> Reach
     ensures { result ≡ inter_reach args grid frame (InC.lists mvs) second ref_width ref_height }
 {
-    let of = lists(mvs);
-    prediction::inter_reach(args, grid, frame, of, second, ref_width, ref_height)
+    let of = mvs.lists();
+    Reach::from(prediction::inter_reach(args, grid, frame, of, second, ref_width, ref_height))
 }

@@ -2,9 +2,8 @@
 ghost use Rattle.std.specs.Prelude.{◌≡◌};
 ghost use Rattle.records.specs.Tables.{tables};
 ghost use Rattle.lists.specs.MvRef.{append_mvs, best_mvs};
-ghost use Rattle.host.specs.InC as InC;
 
-use crate::vectors_c::{SignBias, list};
+use crate::vectors_c::{SignBias, lent};
 use base::Mv;
 use vectors::{MvPair, MvRefGeometry};
 
@@ -32,25 +31,18 @@ pub extern "C" fn knobspindle_append_sub8x8_mvs(
 ) -> MvPair
     ensures { result ≡ append_mvs
         (tables modes.now frames.now mvs.now subs.now prev_frames.now prev_mvs.now)
-        geometry target block (InC.list own.mvs) sign_bias.frame use_prev }
+        geometry target block own.mvs sign_bias.frame use_prev }
 {
-    let bias = sign_bias.frame;
-    let four = own.mvs;
-    let of = list(four);
-    vectors::append_sub8x8_mvs(
-        modes,
-        frames,
-        mvs,
-        subs,
-        prev_frames,
-        prev_mvs,
+    let tables = lent(modes, frames, mvs, subs, prev_frames, prev_mvs, use_prev);
+    let found = vectors::append_sub8x8_mvs(
+        tables,
         geometry,
         block,
         target,
-        of,
-        bias,
-        use_prev,
-    )
+        own.mvs,
+        sign_bias.frame,
+    );
+    MvPair::from(found)
 }
 
 #[unsafe(no_mangle)]
@@ -62,5 +54,5 @@ pub extern "C" fn knobspindle_find_best_ref_mvs(
 ) -> MvPair
     ensures { result ≡ best_mvs geometry first second allowed }
 {
-    vectors::find_best_ref_mvs(geometry, first, second, allowed)
+    MvPair::from(vectors::find_best_ref_mvs(geometry, first, second, allowed))
 }

@@ -5,7 +5,8 @@ ghost use Rattle.planes.specs.Plane.{lent};
 ghost use Rattle.reach.specs.Rectangle.{block_reach};
 ghost use Rattle.samples.specs.Call.{call, ref, Outcome};
 
-use samples::{BlockShape, PlaneGeom, Reach, Stepping};
+use base::told;
+use samples::{BlockShape, PlaneGeom, Reach, Reference, Stepping};
 
 // Where a row stands: in the upper band (0) or the lower (1), from which sample on, and how many samples.
 #[repr(C)]
@@ -17,6 +18,7 @@ pub struct RowPlace {
     pub samples: usize,
 }
 
+#[tactic(auto, unfolding(crate::specs::InC::row_spot))]
 fn row_spot(geom: PlaneGeom, y: usize) -> RowPlace
     requires { (y ≤ 65536) × (geom.stride ≤ 131072) }
     ensures { result ≡ InC.row_spot geom y }
@@ -49,17 +51,15 @@ pub extern "C" fn knobspindle_row_read<'a>(
 ) -> RowPlace
     ensures { result ≡ InC.row_place (lent geom upper.now lower.now) y }
 {
-    let mut number = 0;
-    samples::row_read(upper, lower, geom, y, &mut number);
-    if number != 0 {
-        return RowPlace {
-            answer: number,
+    match samples::row_read(upper, lower, geom, y) {
+        Ok(_) => row_spot(geom, y),
+        Err(refusal) => RowPlace {
+            answer: refusal.number(),
             band: 0,
             first: 0,
             samples: 0,
-        };
+        },
     }
-    row_spot(geom, y)
 }
 
 #[unsafe(no_mangle)]
@@ -82,9 +82,19 @@ pub extern "C" fn knobspindle_block_inter_predict<'a>(
         (ref (lent geom2 upper2.now lower2.now) from2) stride)
         out.old room.old result out.new room.new }
 {
-    samples::block_inter_predict(
-        shape, geom, from, upper, lower, geom2, from2, upper2, lower2, room, out, stride,
-    )
+    let one = Reference {
+        geom,
+        from,
+        upper,
+        lower,
+    };
+    let two = Reference {
+        geom: geom2,
+        from: from2,
+        upper: upper2,
+        lower: lower2,
+    };
+    told(samples::block_inter_predict(shape, one, two, room, out, stride))
 }
 
 #[unsafe(no_mangle)]
@@ -97,5 +107,5 @@ pub extern "C" fn knobspindle_block_reach(
 ) -> Reach
     ensures { result ≡ block_reach w h width height from }
 {
-    samples::block_reach(w, h, width, height, from)
+    Reach::from(samples::block_reach(w, h, width, height, from))
 }

@@ -1,14 +1,17 @@
 // The calls of crate vectors.
-ghost use Rattle.std.specs.Prelude.{◌≡◌};
+ghost use Rattle.std.specs.Prelude.{◌≡◌, cond, []};
 ghost use Rattle.vectors.specs.Select.{select_mv};
 ghost use Rattle.vectors.specs.Clamp.{clamp_mv};
 ghost use Rattle.vectors.specs.Scale.{scale_mv};
 ghost use Rattle.lists.specs.MvRef.{find_mv_refs};
 ghost use Rattle.records.specs.Tables.{tables};
+ghost use Rattle.records.specs.Seen.{seen, has_prev};
 ghost use Rattle.host.specs.InC as InC;
 
-use base::{Eighth, Mv, PlaneMv};
-use vectors::{BlockGrid, ClampedMv, MvRefGeometry, MvRefs, ScaleGeom, ScaledMv, SelectedMv};
+use base::{Mv, PlaneMv};
+use vectors::{
+    BlockGrid, ClampedMv, LentTables, MvRefGeometry, MvRefs, Pairs, ScaleGeom, ScaledMv, SelectedMv,
+};
 
 // A block's vectors, sub-blocks 0..3 of each list. C takes no array by value, and a struct that crosses holds no nested one.
 #[repr(C)]
@@ -18,32 +21,45 @@ pub struct BlockMvs {
     pub list1: [Mv; 4],
 }
 
-fn parts(v: Mv) -> [Eighth; 2]
-    ensures { result ≡ InC.parts v }
-{
-    let row = v.row;
-    let col = v.col;
-    [row, col]
+impl BlockMvs {
+    // The two lists as the library takes them.
+    pub(crate) fn lists(self) -> [[Mv; 4]; 2]
+        ensures { result ≡ InC.lists self }
+    {
+        let BlockMvs { list0, list1 } = self;
+        [list0, list1]
+    }
 }
 
-pub(crate) fn list(mvs: [Mv; 4]) -> [[Eighth; 2]; 4]
-    ensures { result ≡ InC.list mvs }
+// The tables of a search: those of the previous frame only where they are used.
+pub(crate) fn lent<'a>(
+    modes: &'a [u8],
+    frames: &'a [i8],
+    mvs: &'a [i16],
+    subs: &'a [i16],
+    prev_frames: &'a [i8],
+    prev_mvs: &'a [i16],
+    use_prev: bool,
+) -> LentTables<'a>
+    ensures tables { seen result ≡ tables modes.now frames.now mvs.now subs.now
+        (cond use_prev prev_frames.now []) (cond use_prev prev_mvs.now []) }
+    ensures used { has_prev result ≡ use_prev }
 {
-    let a = parts(mvs[0]);
-    let b = parts(mvs[1]);
-    let c = parts(mvs[2]);
-    let d = parts(mvs[3]);
-    [a, b, c, d]
-}
-
-pub(crate) fn lists(of: BlockMvs) -> [[[Eighth; 2]; 4]; 2]
-    ensures { result ≡ InC.lists of }
-{
-    let mvs = of.list0;
-    let others = of.list1;
-    let a = list(mvs);
-    let b = list(others);
-    [a, b]
+    let prev = if use_prev {
+        Some(Pairs {
+            frames: prev_frames,
+            mvs: prev_mvs,
+        })
+    } else {
+        None
+    };
+    LentTables {
+        modes,
+        frames,
+        mvs,
+        subs,
+        prev,
+    }
 }
 
 #[unsafe(no_mangle)]
@@ -58,7 +74,7 @@ pub extern "C" fn knobspindle_select_mv(
 ) -> SelectedMv
     ensures { result ≡ select_mv (InC.lists of) second plane size block sx sy }
 {
-    vectors::select_mv(lists(of), second, plane, size, block, sx, sy)
+    SelectedMv::from(vectors::select_mv(of.lists(), second, plane, size, block, sx, sy))
 }
 
 #[unsafe(no_mangle)]
@@ -71,7 +87,7 @@ pub extern "C" fn knobspindle_clamp_mv(
 ) -> ClampedMv
     ensures { result ≡ clamp_mv grid mv plane sx sy }
 {
-    vectors::clamp_mv(grid, mv, plane, sx, sy)
+    ClampedMv::from(vectors::clamp_mv(grid, mv, plane, sx, sy))
 }
 
 #[unsafe(no_mangle)]
@@ -84,7 +100,7 @@ pub extern "C" fn knobspindle_scale_mv(
 ) -> ScaledMv
     ensures { result ≡ scale_mv geom plane x y mv }
 {
-    vectors::scale_mv(geom, plane, x, y, mv)
+    ScaledMv::from(vectors::scale_mv(geom, plane, x, y, mv))
 }
 
 // Of reference frames 0..3.
@@ -112,18 +128,6 @@ pub extern "C" fn knobspindle_find_mv_refs(
         (tables modes.now frames.now mvs.now subs.now prev_frames.now prev_mvs.now)
         geometry target block sign_bias.frame use_prev }
 {
-    let bias = sign_bias.frame;
-    vectors::find_mv_refs(
-        modes,
-        frames,
-        mvs,
-        subs,
-        prev_frames,
-        prev_mvs,
-        geometry,
-        target,
-        block,
-        bias,
-        use_prev,
-    )
+    let tables = lent(modes, frames, mvs, subs, prev_frames, prev_mvs, use_prev);
+    MvRefs::from(vectors::find_mv_refs(tables, geometry, target, block, sign_bias.frame))
 }

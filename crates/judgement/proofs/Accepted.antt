@@ -12,7 +12,6 @@ use lib.ListN.{get_or}
 use Rattle.base.specs.Answer.{unless, answer}
 use Rattle.base.specs.Number.{between, within}
 use Rattle.base.specs.Position.{to_n}
-use Rattle.base.specs.declared.units.Eighth.{Eighth}
 use Rattle.base.specs.declared.units.Mv.{Mv}
 use Rattle.base.proofs.Answered.{unless_zero}
 use Rattle.base.proofs.Tests.{clash, and_both, and_three, and_four, within_both, abs-between}
@@ -27,14 +26,13 @@ use Rattle.vectors.proofs.Accepted.{scale_ok}
 use Rattle.vectors.specs.declared.inter_mv.BlockGrid.{BlockGrid}
 use Rattle.planes.specs.Plane.{fits}
 use Rattle.blocks.specs.Block.{also, kind, starts}
-use Rattle.blocks.specs.declared.block.Stepping.{Stepping}
+use Rattle.base.specs.declared.units.Stepping.{Stepping}
 use Rattle.judgement.specs.Whole.{Source, Whole, stepping, stepping_of, scale_geom, plane_of, shape_of, allowed_ref, dest_fits, block_ok, number_of}
 use Rattle.judgement.specs.declared.judging.InterPredArgs.{InterPredArgs}
 use Rattle.judgement.specs.declared.judging.FrameGeom.{FrameGeom}
 use Rattle.judgement.specs.declared.judging.RefGeom.{RefGeom}
-use Rattle.judgement.specs.declared.judging.Led.{Led}
 use Rattle.judgement.specs.declared.judging.Judged.{Judged}
-use Rattle.judgement.specs.Chain.{lead, Judgement}
+use Rattle.judgement.specs.Chain.{Lead, lead, Judgement}
 use Rattle.judgement.proofs.Joined.{also_yes}
 
 -- what each row of the table says of an accepted call, with a destination of n samples and a room of m
@@ -130,7 +128,7 @@ module _ (b : InterPredArgs) (g : BlockGrid) (f : FrameGeom) (mvs : BlockMvs) (s
   abbrev v : Mv
   v = chosen mvs (list_number second) b.plane g.mi_size b.block sx sy
 
-  abbrev of : List (List Eighth)
+  abbrev of : List Mv
   of = get_or mvs (list_number second) []
 
   -- the selection is not refused, though it is handed the one list twice
@@ -223,4 +221,4 @@ pub told_two : (a : Whole) (n m : ℕ) (r : Judged) → Judgement a n m r → nu
 told_two a n m r j e t =
     let ok = accepted a n m e in
     let yes = also_yes a.args a.grid a.frame a.two.geom (get_or a.mvs 1 []) t in
-    j.from2 ∙ ap (λ (l : Led). l.from) (sym yes) ∙ leads a.args a.grid a.frame a.mvs true a.two.geom (look-two a n m ok t)
+    j.from2 ∙ ap (λ (l : Lead). l.from) (sym yes) ∙ leads a.args a.grid a.frame a.mvs true a.two.geom (look-two a n m ok t)

@@ -1,7 +1,7 @@
 -- What the code's chain of calls gives, joined to the definition of the whole prediction. Assumes nothing.
 use mathlib.Core.Path.{◌≡◌, refl, ap, ◌∙◌}
 use mathlib.Core.Bool.{Bool, true, false, ◌&&◌, cond}
-use mathlib.Core.List.{List, [], ◌∷◌}
+use mathlib.Core.List.{List, []}
 use Prim.Native.Nat.{ℕ, ◌+◌, ◌/◌, ◌≤◌}
 use native.Mathlib.Omega.{arith}
 use lib.IntN.{ℤ, pos}
@@ -12,7 +12,7 @@ use Rattle.base.specs.Answer.{unless}
 use Rattle.base.specs.Number.{between, within}
 use Rattle.base.specs.Position.{to_n}
 use Rattle.base.proofs.Tests.{clash, and_both, and_three, and_four}
-use Rattle.base.specs.declared.units.Eighth.{Eighth}
+use Rattle.base.specs.declared.units.Mv.{Mv}
 use Rattle.vectors.specs.BlockMvs.{BlockMvs, legal_list, legal_block}
 use Rattle.vectors.specs.Select.{select_mv}
 use Rattle.vectors.specs.Clamp.{clamp_mv, on_axis}
@@ -22,39 +22,19 @@ use Rattle.planes.specs.Plane.{lent, sized, fits}
 use Rattle.blocks.specs.Block as Block
 use Rattle.blocks.specs.Block.{also}
 use Rattle.vectors.specs.declared.inter_mv.BlockGrid.{BlockGrid}
-use Rattle.vectors.specs.declared.inter_mv.SelectedMv.{SelectedMv}
-use Rattle.vectors.specs.declared.inter_mv.ClampedMv.{ClampedMv}
-use Rattle.vectors.specs.declared.inter_mv.ScaledMv.{ScaledMv}
-use Rattle.judgement.specs.Whole.{Whole, extent, plane_geom, plane_of, scale_geom, allowed_ref, dest_fits, block_ok, number_of}
+use Rattle.judgement.specs.Whole.{Whole, extent, plane_geom, plane_of, allowed_ref, dest_fits, block_ok, number_of}
 use Rattle.judgement.specs.Chain as Chain
-use Rattle.judgement.specs.Chain.{lead, lead_also, lead_one, lead_two, lends, other_than, refusal}
+use Rattle.judgement.specs.Chain.{Lead, lead, lead_also, lead_one, lead_two, lends, other_than, refusal}
 use Rattle.judgement.specs.declared.judging.InterPredArgs.{InterPredArgs}
 use Rattle.judgement.specs.declared.judging.FrameGeom.{FrameGeom}
 use Rattle.judgement.specs.declared.judging.RefGeom.{RefGeom}
-use Rattle.judgement.specs.declared.judging.Led.{Led}
 
 -- a choice whose test passes
 taken : {A : Type 0} (t : Bool) (x y : A) → t ≡ true → x ≡ cond t x y
 taken true x y e = refl
 taken false x y e = clash e
 
-module _ (b : InterPredArgs) (g : BlockGrid) (f : FrameGeom) (s : RefGeom) (l : List (List Eighth)) where
-  -- the three calls, each with what the one before it gave
-  pub lead_is : (v : SelectedMv) (p : ClampedMv) (q : ScaledMv)
-      → v ≡ select_mv (l ∷ l ∷ []) false b.plane g.mi_size b.block f.subsampling_x f.subsampling_y
-      → p ≡ clamp_mv g v.mv b.plane f.subsampling_x f.subsampling_y
-      → q ≡ scale_mv (scale_geom f s) b.plane b.x b.y p.mv
-      → ◌≡◌ {A = Led}
-      (record {
-        select = v.answer;
-        clamp = p.answer;
-        scale = q.answer;
-        from = record { start_x = q.start_x; start_y = q.start_y; step_x = q.step_x; step_y = q.step_y };
-      })
-      (lead b g f s l)
-  unfolding lead
-  lead_is v p q d e h = rw (h, e, d)
-
+module _ (b : InterPredArgs) (g : BlockGrid) (f : FrameGeom) (s : RefGeom) (l : List Mv) where
   pub also_yes : b.average ≡ true → lead b g f s l ≡ lead_also b g f s l
   unfolding lead_also
   also_yes e = taken b.average _ _ e
@@ -154,12 +134,12 @@ also_same : (t u x y : Bool) → also t u ≡ true → (u ≡ true → x ≡ y) 
 also_same true u x y e h = h e
 also_same false u x y e h = refl
 
-scale_also : (t : Bool) (x y : Led) → y.scale ≡ 0 → other_than 5 (cond t x y).scale ≡ also t (other_than 5 x.scale)
+scale_also : (t : Bool) (x y : Lead) → y.scale ≡ 0 → other_than 5 (cond t x y).scale ≡ also t (other_than 5 x.scale)
 unfolding other_than
 scale_also true x y e = refl
 scale_also false x y e = rw e
 
-select_also : (t : Bool) (x y : Led) → y.select ≡ 0 → other_than 9 (cond t x y).select ≡ also t (other_than 9 x.select)
+select_also : (t : Bool) (x y : Lead) → y.select ≡ 0 → other_than 9 (cond t x y).select ≡ also t (other_than 9 x.select)
 unfolding other_than
 select_also true x y e = refl
 select_also false x y e = rw e
@@ -180,21 +160,21 @@ module _ (b : InterPredArgs) (g : BlockGrid) (f : FrameGeom) where
       let t = and_four (leb g.mi_size 12) (leb b.block 3) (leb b.plane 2) _ e in
       (rw (t.0, t.1.1.0), t.1.1.0)
 
-  pub size_at : (s : RefGeom) (l : List (List Eighth)) → block_ok b g f ≡ true → other_than 5 (lead b g f s l).scale ≡ allowed_ref f s
+  pub size_at : (s : RefGeom) (l : List Mv) → block_ok b g f ≡ true → other_than 5 (lead b g f s l).scale ≡ allowed_ref f s
   unfolding lead scale_mv allowed_ref
   size_at s l e = other_fifth _ _ _ _ (first_is e).1
 
-  pub start_at : (s : RefGeom) (l : List (List Eighth)) → block_ok b g f ≡ true → allowed_ref f s ≡ true
+  pub start_at : (s : RefGeom) (l : List Mv) → block_ok b g f ≡ true → allowed_ref f s ≡ true
       → other_than 6 (lead b g f s l).scale ≡ placed b.x && placed b.y
   unfolding lead scale_mv allowed_ref
   start_at s l e u = other_sixth _ _ _ _ (first_is e).1 u
 
-  pub grid_at : (s : RefGeom) (l : List (List Eighth)) → block_ok b g f ≡ true
+  pub grid_at : (s : RefGeom) (l : List Mv) → block_ok b g f ≡ true
       → other_than 2 (lead b g f s l).clamp ≡ on_axis g.mi_rows g.mi_row && on_axis g.mi_cols g.mi_col
   unfolding lead clamp_mv
   grid_at s l e = other_second _ _ _ (first_is e).0
 
-  pub block_at : (s : RefGeom) (l : List (List Eighth)) → other_than 1 (lead b g f s l).select ≡ block_ok b g f
+  pub block_at : (s : RefGeom) (l : List Mv) → other_than 1 (lead b g f s l).select ≡ block_ok b g f
   unfolding lead select_mv block_ok
   block_at s l = other_first _ _
 

@@ -1,2 +1,3 @@
 pub mod Accepted
 pub mod Joined
+pub mod Leading

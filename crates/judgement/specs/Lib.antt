@@ -1,2 +1,3 @@
 pub mod Whole
+pub mod Seen
 pub mod Chain

@@ -13,7 +13,7 @@ use Rattle.vectors.specs.declared.inter_mv.ScaleGeom.{ScaleGeom}
 use Rattle.planes.specs.Plane.{Lent, lent, holds, fits}
 use Rattle.blocks.specs.Block.{kind, also}
 use Rattle.blocks.specs.declared.block.BlockShape.{BlockShape}
-use Rattle.blocks.specs.declared.block.Stepping.{Stepping}
+use Rattle.base.specs.declared.units.Stepping.{Stepping}
 use Rattle.planes.specs.declared.plane.PlaneGeom.{PlaneGeom}
 use Rattle.judgement.specs.declared.judging.InterPredArgs.{InterPredArgs}
 use Rattle.judgement.specs.declared.judging.FrameGeom.{FrameGeom}

@@ -1,17 +1,15 @@
 // What a whole prediction is told before it writes, steps 2 to 4 of the standard's 8.5.2: its number, and where the block starts in each reference.
 ghost use Rattle.std.specs.Prelude.{◌≡◌, pos};
-ghost use Rattle.planes.specs.Plane.{lent};
+ghost use Rattle.base.specs.Refused.{number, told};
 ghost use Rattle.blocks.specs.Block as Block;
 ghost use Rattle.judgement.specs.Whole as Whole;
-ghost use Rattle.judgement.specs.Whole.{source, whole};
+ghost use Rattle.judgement.specs.Whole.{whole};
+ghost use Rattle.judgement.specs.Seen.{seen, plane_seen};
 ghost use Rattle.judgement.specs.Chain as Chain;
-ghost use Rattle.judgement.specs.Chain.{Judgement};
+ghost use Rattle.judgement.specs.Chain.{Judgement, numbers};
 
-use base::{
-    BLOCK, Eighth, FILTER, GRID, SHORT, SIZE, START, Sixteenth, VECTOR, natural, unless, within,
-};
-use blocks::Stepping;
-use planes::{PlaneGeom, row_read};
+use base::{Mv, PlaneMv, Refusal, Stepping, natural, within};
+use planes::{PlaneGeom, holds, row_read};
 use vectors::{BlockGrid, ScaleGeom, clamp_mv, scale_mv, select_mv};
 
 // The block: its plane, its first sample there, its size in samples, the sub-block, the filter, the bit depth, and whether two lists are averaged.
@@ -49,6 +47,14 @@ pub struct RefGeom {
     pub upper_rows: usize,
 }
 
+// A reference as it is lent: its numbers, and its plane in two bands.
+#[derive(Clone, Copy)]
+pub struct RefSource<'a> {
+    pub geom: RefGeom,
+    pub upper: &'a [u16],
+    pub lower: &'a [u16],
+}
+
 // The destination plane's size in samples; its stride is its width.
 #[repr(C)]
 #[derive(Clone, Copy)]
@@ -57,19 +63,18 @@ pub struct DestGeom {
     pub height: usize,
 }
 
-// What the three calls on vectors gave for one list: their answers, and where the block starts.
+// What the three calls on vectors gave for one list, each with what the one before it gave, or with no vector where that was refused.
 #[derive(Clone, Copy)]
 pub struct Led {
-    pub select: u32,
-    pub clamp: u32,
-    pub scale: u32,
-    pub from: Stepping,
+    pub select: Result<Mv, Refusal>,
+    pub clamp: Result<PlaneMv, Refusal>,
+    pub scale: Result<Stepping, Refusal>,
 }
 
-// What a call is told of both lists.
+// What a call is told of both lists: whether it is accepted, and where the block starts in each reference.
 #[derive(Clone, Copy)]
 pub struct Judged {
-    pub number: u32,
+    pub answer: Result<(), Refusal>,
     pub from: Stepping,
     pub from2: Stepping,
 }
@@ -80,13 +85,13 @@ pub fn lead(
     grid: BlockGrid,
     frame: FrameGeom,
     geom: RefGeom,
-    of: [[Eighth; 2]; 4],
+    of: [Mv; 4],
 ) -> Led
-    ensures { result ≡ Chain.lead args grid frame geom of }
+    ensures { numbers result ≡ Chain.lead args grid frame geom of }
 {
     let sx = frame.subsampling_x;
     let sy = frame.subsampling_y;
-    let v = select_mv(
+    let select = select_mv(
         [of, of],
         false,
         args.plane,
@@ -95,8 +100,7 @@ pub fn lead(
         sx,
         sy,
     );
-    let mv = v.mv;
-    let p = clamp_mv(grid, mv, args.plane, sx, sy);
+    let clamp = clamp_mv(grid, select.unwrap_or_default(), args.plane, sx, sy);
     let sizes = ScaleGeom {
         ref_frame_width: geom.frame_width,
         ref_frame_height: geom.frame_height,
@@ -105,50 +109,33 @@ pub fn lead(
         subsampling_x: sx,
         subsampling_y: sy,
     };
-    let held = p.mv;
-    let q = scale_mv(sizes, args.plane, args.x, args.y, held);
-    let start_x = q.start_x;
-    let start_y = q.start_y;
-    let step_x = q.step_x;
-    let step_y = q.step_y;
-    let from = Stepping {
-        start_x,
-        start_y,
-        step_x,
-        step_y,
-    };
+    let scale = scale_mv(sizes, args.plane, args.x, args.y, clamp.unwrap_or_default());
     Led {
-        select: v.answer,
-        clamp: p.answer,
-        scale: q.answer,
-        from,
+        select,
+        clamp,
+        scale,
     }
 }
 
 // "anything of list 1 only when averaging"
+#[tactic(auto, unfolding(crate::specs::Chain::lead_also))]
 fn lead_also(
     args: InterPredArgs,
     grid: BlockGrid,
     frame: FrameGeom,
     geom: RefGeom,
-    of: [[Eighth; 2]; 4],
+    of: [Mv; 4],
 ) -> Led
-    ensures { result ≡ Chain.lead_also args grid frame geom of }
+    ensures { numbers result ≡ Chain.lead_also args grid frame geom of }
 {
     if args.average {
-        return lead(args, grid, frame, geom, of);
-    }
-    let from = Stepping {
-        start_x: Sixteenth(0),
-        start_y: Sixteenth(0),
-        step_x: Sixteenth(0),
-        step_y: Sixteenth(0),
-    };
-    Led {
-        select: 0,
-        clamp: 0,
-        scale: 0,
-        from,
+        lead(args, grid, frame, geom, of)
+    } else {
+        Led {
+            select: Ok(Mv::default()),
+            clamp: Ok(PlaneMv::default()),
+            scale: Ok(Stepping::default()),
+        }
     }
 }
 
@@ -156,13 +143,8 @@ fn extent(plane: usize, sub: bool, frame: i32) -> i32
     ensures { result ≡ pos (Whole.extent plane sub frame) }
 {
     let n = natural(frame);
-    if plane == 0 {
-        return n as i32;
-    }
-    if sub {
-        return ((n + 1) / 2) as i32;
-    }
-    n as i32
+    let side = if (plane != 0) & sub { n.div_ceil(2) } else { n };
+    side as i32
 }
 
 pub fn plane_geom(args: InterPredArgs, frame: FrameGeom, geom: RefGeom) -> PlaneGeom
@@ -179,109 +161,90 @@ pub fn plane_geom(args: InterPredArgs, frame: FrameGeom, geom: RefGeom) -> Plane
 }
 
 // Whether row 0 can be read: where the plane's size is right, this asks of the bands what block prediction asks.
-fn lends<'a>(upper: &'a [u16], lower: &'a [u16], geom: PlaneGeom) -> bool
-    ensures { result ≡ Chain.lends (lent geom upper.now lower.now) }
+#[tactic(auto, unfolding(crate::specs::Chain::lends))]
+fn lends<'a>(args: InterPredArgs, frame: FrameGeom, from: RefSource<'a>) -> bool
+    ensures { result ≡ Chain.lends (plane_seen args frame from.entry) }
 {
-    let mut number = 0;
-    row_read(upper, lower, geom, 0, &mut number);
-    number == 0
+    let plane = plane_geom(args, frame, from.geom);
+    row_read(from.upper, from.lower, plane, 0).is_ok()
 }
 
-fn lends_also<'a>(average: bool, upper: &'a [u16], lower: &'a [u16], geom: PlaneGeom) -> bool
-    ensures { result ≡ Block.also average (Chain.lends (lent geom upper.now lower.now)) }
+fn lends_also<'a>(args: InterPredArgs, frame: FrameGeom, from: RefSource<'a>) -> bool
+    ensures { result ≡ Block.also args.average (Chain.lends (plane_seen args frame from.entry)) }
 {
-    if average {
-        lends(upper, lower, geom)
-    } else {
-        true
-    }
+    !args.average || lends(args, frame, from)
 }
 
+#[tactic(auto, unfolding(crate::specs::Whole::dest_fits, base::specs::Number::within))]
 fn dest_fits(dest: DestGeom, n: usize) -> bool
     ensures { result ≡ Whole.dest_fits dest n }
 {
-    if within(1, 65536, dest.width) & within(1, 65536, dest.height) {
-        (dest.height - 1) * dest.width + dest.width <= n
-    } else {
-        false
-    }
+    within(1, 65536, dest.width)
+        && within(1, 65536, dest.height)
+        && holds(dest.height, dest.width, dest.width, n)
 }
 
+#[tactic(auto, unfolding(crate::specs::Chain::kind))]
 fn kind(filter: usize, depth: u32) -> bool
     ensures { result ≡ Chain.kind filter depth }
 {
     (filter <= 3) & ((depth == 8) | (depth == 10) | (depth == 12))
 }
 
-// Whether a call below answered something else.
-pub fn other_than(number: u32, answer: u32) -> bool
-    ensures { result ≡ Chain.other_than number answer }
+// Whether a call below was not refused by this row.
+#[tactic(auto, unfolding(crate::specs::Chain::other_than))]
+pub fn other_than<T: Copy>(row: Refusal, answer: Result<T, Refusal>) -> bool
+    ensures { result ≡ Chain.other_than (number row) (told answer) }
 {
-    if answer == number { false } else { true }
+    match answer {
+        Ok(_) => true,
+        Err(refusal) => refusal != row,
+    }
 }
 
-// The lowest number, from the answers of the calls on vectors and from what only this call is given.
-fn refusal(args: InterPredArgs, one: Led, two: Led, lent: bool) -> u32
-    ensures { result ≡ Chain.refusal args one two lent }
+// The table's rows, from the answers of the calls on vectors and from what only this call is given.
+#[tactic(auto, unfolding(base::specs::Answer::unless, crate::specs::Chain::refusal))]
+fn allowed(args: InterPredArgs, one: Led, two: Led, lent: bool) -> Result<(), Refusal>
+    ensures { told result ≡ Chain.refusal args (numbers one) (numbers two) lent }
 {
-    let block = other_than(BLOCK, one.select) & within(1, 64, args.w) & within(1, 64, args.h);
-    let size = other_than(SIZE, one.scale) & other_than(SIZE, two.scale);
-    let vector = other_than(VECTOR, one.select) & other_than(VECTOR, two.select);
-    let rest = unless(
-        START,
-        other_than(START, one.scale),
-        unless(SHORT, lent, unless(VECTOR, vector, 0)),
-    );
-    unless(
-        BLOCK,
-        block,
-        unless(
-            GRID,
-            other_than(GRID, one.clamp),
-            unless(
-                FILTER,
-                kind(args.filter, args.depth),
-                unless(SIZE, size, rest),
-            ),
-        ),
-    )
+    let block = within(1, 64, args.w) & within(1, 64, args.h);
+    Refusal::Block.unless(other_than(Refusal::Block, one.select) & block)?;
+    Refusal::Grid.unless(other_than(Refusal::Grid, one.clamp))?;
+    Refusal::Filter.unless(kind(args.filter, args.depth))?;
+    let size = other_than(Refusal::Size, one.scale) & other_than(Refusal::Size, two.scale);
+    Refusal::Size.unless(size)?;
+    Refusal::Start.unless(other_than(Refusal::Start, one.scale))?;
+    Refusal::Short.unless(lent)?;
+    let vector = other_than(Refusal::Vector, one.select) & other_than(Refusal::Vector, two.select);
+    Refusal::Vector.unless(vector)
 }
 
-// What a call is told before it writes: its number and, where that is 0, where the block starts in each reference.
+// What a call is told before it writes: whether it is accepted and, where it is, where the block starts in each reference.
+#[inline(always)]
 pub fn judge<'a>(
     args: InterPredArgs,
     grid: BlockGrid,
     frame: FrameGeom,
-    mvs: [[[Eighth; 2]; 4]; 2],
-    geom: RefGeom,
-    upper: &'a [u16],
-    lower: &'a [u16],
-    geom2: RefGeom,
-    upper2: &'a [u16],
-    lower2: &'a [u16],
+    mvs: [[Mv; 4]; 2],
+    one: RefSource<'a>,
+    two: RefSource<'a>,
     dest: DestGeom,
     n: usize,
     m: usize,
 ) -> Judged
-    ensures { Judgement
-        (whole args grid frame mvs (source geom upper.now lower.now) (source geom2 upper2.now lower2.now) dest)
-        n m result }
+    ensures { Judgement (whole args grid frame mvs (seen one.entry) (seen two.entry) dest) n m result }
 {
-    let list0 = mvs[0];
-    let list1 = mvs[1];
-    let one = lead(args, grid, frame, geom, list0);
-    let two = lead_also(args, grid, frame, geom2, list1);
-    let plane = plane_geom(args, frame, geom);
-    let plane2 = plane_geom(args, frame, geom2);
-    let lent = lends(upper, lower, plane)
-        & lends_also(args.average, upper2, lower2, plane2)
+    let first = lead(args, grid, frame, one.geom, mvs[0]);
+    let second = lead_also(args, grid, frame, two.geom, mvs[1]);
+    let lent = lends(args, frame, one)
+        & lends_also(args, frame, two)
         & dest_fits(dest, n)
         & (8576 <= m);
-    let number = refusal(args, one, two, lent);
-    let from = one.from;
-    let from2 = two.from;
+    let answer = allowed(args, first, second, lent);
+    let from = first.scale.unwrap_or_default();
+    let from2 = second.scale.unwrap_or_default();
     Judged {
-        number,
+        answer,
         from,
         from2,
     }

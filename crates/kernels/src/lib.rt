@@ -5,4 +5,5 @@ mod down;
 mod rows;
 
 pub use down::{row_down, row_down_mean};
-pub use rows::{gather, held, row_across};
+pub use rows::{gather, row_across};
+pub use taps::held;

@@ -6,8 +6,8 @@ use native.Mathlib.Nat.{mul-add, mul_assoc}
 use native.Mathlib.Omega.{arith}
 use Rattle.taps.specs.Taps.{tap}
 use Rattle.taps.specs.Filter.{filtered}
-use Rattle.taps.specs.Kernel.{IsTaps, products, raised_one, joined_sums, wide_one}
-use Rattle.taps.specs.declared.taps.Taps.{Taps}
+use Rattle.taps.specs.Kernel.{products, raised_one, joined_sums, wide_one}
+use Rattle.taps.specs.declared.eight.Taps.{Taps}
 use Rattle.taps.proofs.Filtered.{one_is}
 use Rattle.lanes.proofs.Low.{whole, turned, ranged}
 
@@ -92,13 +92,13 @@ joined_is max v w s n sh nh sl nl j k m e f se ne gh gl =
     ∙ ap (λ (b : ℕ). min b max) (both _ _ sh nh sl nl hi lo (omega arith))
     ∙ rw (se, ne)
 
-pub wide_is : (max : ℕ) (p : Taps) (x : ℕ → ℕ) → max ≤ 4095 → IsTaps p → ((t : ℕ) → t < 8 → x t < 65536)
+pub wide_is : (max : ℕ) (p : Taps) (x : ℕ → ℕ) → max ≤ 4095 → ((t : ℕ) → t < 8 → x t < 65536)
     → wide_one max p (x 0) (x 1) (x 2) (x 3) (x 4) (x 5) (x 6) (x 7) ≡ filtered max (tap p.filter p.phase) x
 unfolding wide_one raised_one
-wide_is max p x m r small =
-    let th = turned p (high x) r in
-    let tx = turned p x r in
-    let gh = ranged p (high x) r (λ t t8. omega (arith, small t t8)) in
-    let gl = ranged p (low x) r (λ t t8. omega arith) in
+wide_is max p x m small =
+    let th = turned p (high x) in
+    let tx = turned p x in
+    let gh = ranged p (high x) (λ t t8. omega (arith, small t t8)) in
+    let gl = ranged p (low x) (λ t t8. omega arith) in
     joined_is max _ _ _ _ _ _ _ _ th.turns tx.turns m th.is tx.is (parted p x) (surplus_parted x) gh gl
-    ∙ one_is max p x r
+    ∙ one_is max p x

@@ -15,9 +15,11 @@ use Rattle.base.proofs.Table.{every, entry}
 use Rattle.base.proofs.Tests.{and_both}
 use Rattle.taps.specs.Taps.{regular, smooth, sharp, bilinear, filters, tap}
 use Rattle.taps.specs.Filter.{filtered}
-use Rattle.taps.specs.Kernel.{Raised, IsTaps, products, raised_one, Below, BelowRows, UpToRows, low_tap, low_sum, low_one}
-use Rattle.taps.specs.Kernel.{low_at, low_ran, low_rows, apart, ran, ran_rows, fill_rows}
-use Rattle.taps.specs.declared.taps.Taps.{Taps}
+use Rattle.taps.specs.Eight.{Raised}
+use Rattle.taps.specs.Kernel.{products, raised_one, Below, BelowRows, UpToRows, low_tap, low_sum, low_one}
+use Rattle.taps.specs.Kernel.{low_ran, low_rows, apart, ran, ran_rows, fill_rows}
+use Rattle.taps.specs.declared.eight.Taps.{Taps}
+use Rattle.lanes.specs.Rows.{LowRows}
 use Rattle.taps.proofs.Filtered.{one_is}
 use Rattle.taps.proofs.Loops.{rows_same}
 
@@ -103,27 +105,27 @@ unbiased : (v s n : ℕ) → v + n ≡ s + 16448 → v - 16384 ≡ s + 64 - n
 unbiased v s n e = omega arith
 
 -- eight of them
-pub turned : (p : Taps) (x : ℕ → ℕ) → IsTaps p
+pub turned : (p : Taps) (x : ℕ → ℕ)
     → Turned (low_sum p (x 0) (x 1) (x 2) (x 3) (x 4) (x 5) (x 6) (x 7)) (products p (x 0) (x 1) (x 2) (x 3) (x 4) (x 5) (x 6) (x 7))
     (24 * (x 0 + x 1 + x 2 + x 3 + x 4 + x 5 + x 6 + x 7))
-turned p x r =
-    let w0 = wound p.t0 (x 0) (ltb p.t0 24) refl r.t0.le in
-    let w1 = wound p.t1 (x 1) (ltb p.t1 24) refl r.t1.le in
-    let w2 = wound p.t2 (x 2) (ltb p.t2 24) refl r.t2.le in
-    let w3 = wound p.t3 (x 3) (ltb p.t3 24) refl r.t3.le in
-    let w4 = wound p.t4 (x 4) (ltb p.t4 24) refl r.t4.le in
-    let w5 = wound p.t5 (x 5) (ltb p.t5 24) refl r.t5.le in
-    let w6 = wound p.t6 (x 6) (ltb p.t6 24) refl r.t6.le in
-    let w7 = wound p.t7 (x 7) (ltb p.t7 24) refl r.t7.le in
+turned p x =
+    let w0 = wound p.t0 (x 0) (ltb p.t0 24) refl p.tap0.le in
+    let w1 = wound p.t1 (x 1) (ltb p.t1 24) refl p.tap1.le in
+    let w2 = wound p.t2 (x 2) (ltb p.t2 24) refl p.tap2.le in
+    let w3 = wound p.t3 (x 3) (ltb p.t3 24) refl p.tap3.le in
+    let w4 = wound p.t4 (x 4) (ltb p.t4 24) refl p.tap4.le in
+    let w5 = wound p.t5 (x 5) (ltb p.t5 24) refl p.tap5.le in
+    let w6 = wound p.t6 (x 6) (ltb p.t6 24) refl p.tap6.le in
+    let w7 = wound p.t7 (x 7) (ltb p.t7 24) refl p.tap7.le in
     record {
       turns = w0.turns + w1.turns + w2.turns + w3.turns + w4.turns + w5.turns + w6.turns + w7.turns;
       is = omega (arith, w0.is, w1.is, w2.is, w3.is, w4.is, w5.is, w6.is, w7.is);
     }
 
-pub ranged : (p : Taps) (x : ℕ → ℕ) → IsTaps p → ((t : ℕ) → t < 8 → x t ≤ 255)
+pub ranged : (p : Taps) (x : ℕ → ℕ) → ((t : ℕ) → t < 8 → x t ≤ 255)
     → (products p (x 0) (x 1) (x 2) (x 3) (x 4) (x 5) (x 6) (x 7) ≤ 24 * (x 0 + x 1 + x 2 + x 3 + x 4 + x 5 + x 6 + x 7) + 46410)
     × (24 * (x 0 + x 1 + x 2 + x 3 + x 4 + x 5 + x 6 + x 7) ≤ products p (x 0) (x 1) (x 2) (x 3) (x 4) (x 5) (x 6) (x 7) + 13770)
-ranged p x r low =
+ranged p x low =
     let rule = tame p.filter p.phase in
     let l0 = low 0 (omega arith) in
     let l1 = low 1 (omega arith) in
@@ -133,55 +135,51 @@ ranged p x r low =
     let l5 = low 5 (omega arith) in
     let l6 = low 6 (omega arith) in
     let l7 = low 7 (omega arith) in
-    let b0 = bounds p.t0 _ (x 0) r.t0 l0 in
-    let b1 = bounds p.t1 _ (x 1) r.t1 l1 in
-    let b2 = bounds p.t2 _ (x 2) r.t2 l2 in
-    let b3 = bounds p.t3 _ (x 3) r.t3 l3 in
-    let b4 = bounds p.t4 _ (x 4) r.t4 l4 in
-    let b5 = bounds p.t5 _ (x 5) r.t5 l5 in
-    let b6 = bounds p.t6 _ (x 6) r.t6 l6 in
-    let b7 = bounds p.t7 _ (x 7) r.t7 l7 in
+    let b0 = bounds p.t0 _ (x 0) p.tap0 l0 in
+    let b1 = bounds p.t1 _ (x 1) p.tap1 l1 in
+    let b2 = bounds p.t2 _ (x 2) p.tap2 l2 in
+    let b3 = bounds p.t3 _ (x 3) p.tap3 l3 in
+    let b4 = bounds p.t4 _ (x 4) p.tap4 l4 in
+    let b5 = bounds p.t5 _ (x 5) p.tap5 l5 in
+    let b6 = bounds p.t6 _ (x 6) p.tap6 l6 in
+    let b7 = bounds p.t7 _ (x 7) p.tap7 l7 in
     (omega arith, omega arith)
 
-pub low_is : (p : Taps) (x : ℕ → ℕ) → IsTaps p → ((t : ℕ) → t < 8 → x t ≤ 255)
+pub low_is : (p : Taps) (x : ℕ → ℕ) → ((t : ℕ) → t < 8 → x t ≤ 255)
     → low_one p (x 0) (x 1) (x 2) (x 3) (x 4) (x 5) (x 6) (x 7) ≡ filtered 255 (tap p.filter p.phase) x
 unfolding low_one raised_one
-low_is p x r low =
-    let t = turned p x r in
-    let g = ranged p x r low in
+low_is p x low =
+    let t = turned p x in
+    let g = ranged p x low in
     ap (λ (k : ℕ). min (k / 128) 255) (unbiased _ _ _ (whole _ _ _ 0 t.turns (omega (arith, t.is)) g.0 g.1))
-    ∙ one_is 255 p x r
+    ∙ one_is 255 p x
 
 -- ---- a row
 
-pub low-ran : (p : Taps) (l : List ℕ) (n b c : ℕ) → IsTaps p → ((t : ℕ) → t < 8 → apart l n (b + c) t ≤ 255)
+pub low-ran : (p : Taps) (l : List ℕ) (n b c : ℕ) → ((t : ℕ) → t < 8 → apart l n (b + c) t ≤ 255)
     → low_ran p l n b c ≡ ran 255 (tap p.filter p.phase) l n b c
 unfolding low_ran ran apart
-low-ran p l n b c r low = rw (mul-zero, add-zero, mul-one) at (low_is p (apart l n (b + c)) r low)
+low-ran p l n b c low = rw (mul-zero, add-zero, mul-one) at (low_is p (apart l n (b + c)) low)
 
--- its first result
-pub low_first : (p : Taps) (l : List ℕ) (n b : ℕ) {v : ℕ} → v ≡ low_at p l n b → v ≡ low_ran p l n b 0
-unfolding low_ran
-low_first p l n b e = e ∙ ap (low_at p l n) (sym (add-zero b))
+-- ---- rows over samples of at most 255
 
--- rows of horizontal results over samples of at most 255
-pub across_low : (p : Taps) (l out : List ℕ) (b line w h at stride : ℕ) → IsTaps p → UpToRows 255 l b line (w + 7) h
-    → fill_rows out at stride w h (low_rows p l 1 b line) ≡ fill_rows out at stride w h (ran_rows 255 (tap p.filter p.phase) l 1 b line)
-unfolding low_rows ran_rows apart
-across_low p l out b line w h at stride r low =
-    rows_same out at stride w h _ _
-    (λ i c ih cw.
-    low-ran p l 1 (b + i * line) c r
-    (λ t t8.
-    let e : b + i * line + (c + t) ≡ b + i * line + c + 1 * t = omega arith in
-    subst (λ (k : ℕ). get_or l k 0 ≤ 255) e ((low.le i ih).le (c + t) (omega arith))))
+pub low_filled : (p : Taps) (l out : List ℕ) (n b line w h at stride : ℕ) → LowRows 255 l n b line w h
+    → fill_rows out at stride w h (low_rows p l n b line) ≡ fill_rows out at stride w h (ran_rows 255 (tap p.filter p.phase) l n b line)
+unfolding low_rows ran_rows
+low_filled p l out n b line w h at stride low =
+    rows_same out at stride w h _ _ (λ i c ih cw. low-ran p l n (b + i * line) c (λ t t8. low.le i c t ih cw t8))
 
 pub one_below : {max : ℕ} {l : List ℕ} {b w : ℕ} → Below max l b w → BelowRows max l b w 1
 one_below below = record { le = λ r r1. let e : r ≡ 0 = omega arith in rw (e, zero-mul, add-zero) below }
 
--- and of vertical results
-pub down_low : (p : Taps) (l out : List ℕ) (b w h at stride : ℕ) → IsTaps p → BelowRows 255 l b w h
-    → fill_rows out at stride w h (low_rows p l 64 b 64) ≡ fill_rows out at stride w h (ran_rows 255 (tap p.filter p.phase) l 64 b 64)
-unfolding low_rows ran_rows
-down_low p l out b w h at stride r low =
-    rows_same out at stride w h _ _ (λ i c ih cw. low-ran p l 64 (b + i * 64) c r (λ t t8. (low.le i ih).le c t cw t8))
+-- what the rows' contracts ask of their samples
+pub low_across : {max : ℕ} {l : List ℕ} {b line w h : ℕ} → UpToRows max l b line (w + 7) h → LowRows max l 1 b line w h
+unfolding apart
+low_across {max} {l} {b} {line} low = record {
+  le = λ r c t rh cw t8.
+      let e : b + r * line + (c + t) ≡ b + r * line + c + 1 * t = omega arith in
+      subst (λ (k : ℕ). get_or l k 0 ≤ max) e ((low.le r rh).le (c + t) (omega arith));
+}
+
+pub low_down : {max : ℕ} {l : List ℕ} {b w h : ℕ} → BelowRows max l b w h → LowRows max l 64 b 64 w h
+low_down low = record { le = λ r c t rh cw t8. (low.le r rh).le c t cw t8 }

@@ -3,4 +3,4 @@
 
 mod lanes;
 
-pub use lanes::{either, first, rows_across, rows_down, top_of_eight};
+pub use lanes::{either, first, rows_across, rows_down, top_of, top_of_run};

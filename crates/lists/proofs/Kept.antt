@@ -13,7 +13,6 @@ use Rattle.base.specs.Answer.{answer}
 use Rattle.base.specs.Number.{between}
 use Rattle.base.specs.Position.{to_n}
 use Rattle.base.specs.Vector.{mv, zero_mv, legal_mv}
-use Rattle.base.specs.declared.units.Eighth.{Eighth}
 use Rattle.base.specs.declared.units.Mv.{Mv}
 use Rattle.base.proofs.Bd.{abs-mul, abs-quot}
 use Rattle.base.proofs.Legal.{legal_bd, legal_row, legal_col}
@@ -78,24 +77,20 @@ chosen n v f = by-test (eqb n 0) refl
     by-test false e = omega arith
 
 module _ (t : Tables) (g : MvRefGeometry) (target block : ℤ) (bias : List Bool) (on : Bool) where
-  right : Bool
-  right = leb g.mi_size 12 && between (negsuc 0) (pos 3) block
-
-  accepted : answer (search_rows t g target block on) ≡ 0 → SearchOk t g target right on
-  unfolding right
-  accepted e = search_ok t g target right on e
+  accepted : answer (search_rows t g target block on) ≡ 0 → SearchOk t g (between (negsuc 0) (pos 3) block) on
+  accepted e = search_ok t g target (between (negsuc 0) (pos 3) block) on e
 
   pub find_first_kept : Small (find_mv_refs t g target block bias on).first
   unfolding find_mv_refs
   find_first_kept =
       chosen (answer (search_rows t g target block on)) _
-      (λ e. ref_kept 128 g _ (accepted e).call.grid (candidates_small t g target block bias on (accepted e).legal).first)
+      (λ e. ref_kept 128 g _ (accepted e).grid (candidates_small t g target block bias on (accepted e).legal).first)
 
   pub find_second_kept : Small (find_mv_refs t g target block bias on).second
   unfolding find_mv_refs
   find_second_kept =
       chosen (answer (search_rows t g target block on)) _
-      (λ e. ref_kept 128 g _ (accepted e).call.grid (candidates_small t g target block bias on (accepted e).legal).second)
+      (λ e. ref_kept 128 g _ (accepted e).grid (candidates_small t g target block bias on (accepted e).legal).second)
 
   pub find_context_range : (find_mv_refs t g target block bias on).context ≤ 6
   unfolding find_mv_refs
@@ -118,7 +113,7 @@ module _ (g : MvRefGeometry) (a b : Mv) (allowed : Bool) where
       chosen (answer (best_rows g a b)) _
       (λ e. let ok = best_ok g a b e in ref_kept 1248 g _ ok.grid (lowered_kept allowed b (legal_small b ok.second)))
 
-list_kept : (b : ℕ) (m : List (List Eighth)) (p q : Mv) → legal_four m ≡ true → Small p → Small q → SmallPair (sub_list b m p q)
+list_kept : (b : ℕ) (m : List Mv) (p q : Mv) → legal_four m ≡ true → Small p → Small q → SmallPair (sub_list b m p q)
 unfolding legal_four sub_list before
 list_kept b m p q e sp sq = by-block (eqb b 0)
   where
@@ -137,7 +132,7 @@ list_kept b m p q e sp sq = by-block (eqb b 0)
     by-block true = record { first = sp; second = sq }
     by-block false = offers_small none none_small (by_place (leb b 2))
 
-module _ (t : Tables) (g : MvRefGeometry) (target : ℤ) (b : ℕ) (m : List (List Eighth)) (bias : List Bool) (on : Bool) where
+module _ (t : Tables) (g : MvRefGeometry) (target : ℤ) (b : ℕ) (m : List Mv) (bias : List Bool) (on : Bool) where
   pair_kept : answer (append_rows t g target b m on) ≡ 0
       → let held = candidates t g target (pos b) bias on in
       SmallPair (sub_list b m (clamp_ref (pos 128) g held.first) (clamp_ref (pos 128) g held.second))

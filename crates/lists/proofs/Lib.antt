@@ -2,3 +2,4 @@ pub mod Kept
 pub mod Same
 pub mod SearchCalls
 pub mod Table
+pub mod Unread

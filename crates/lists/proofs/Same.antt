@@ -2,7 +2,6 @@
 use mathlib.Core.Path.{◌≡◌}
 use mathlib.Core.List.{List}
 use Prim.Native.Nat.{ℕ}
-use Rattle.base.specs.declared.units.Eighth.{Eighth}
 use Rattle.base.specs.declared.units.Mv.{Mv}
 use Rattle.lists.specs.MvRef.{sub_list}
 use Rattle.lists.specs.declared.mv_ref.MvPair.{MvPair}
@@ -16,5 +15,5 @@ pub refs_same : {a b x y : Mv} {k n : ℕ} → a ≡ x → b ≡ y → k ≡ n
     → ◌≡◌ {A = MvRefs} (record { answer = 0; first = a; second = b; context = k }) (record { answer = 0; first = x; second = y; context = n })
 refs_same e f g = rw (e, f, g)
 
-pub list_same : (block : ℕ) (m : List (List Eighth)) {a b x y : Mv} → a ≡ x → b ≡ y → sub_list block m a b ≡ sub_list block m x y
+pub list_same : (block : ℕ) (m : List Mv) {a b x y : Mv} → a ≡ x → b ≡ y → sub_list block m a b ≡ sub_list block m x y
 list_same block m e f = rw (e, f)

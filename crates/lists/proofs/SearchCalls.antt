@@ -6,7 +6,6 @@ use mathlib.Core.List.{List}
 use Prim.Native.Nat.{ℕ}
 use lib.IntN.{ℤ}
 use Rattle.base.specs.Answer.{Lowest}
-use Rattle.base.specs.declared.units.Eighth.{Eighth}
 use Rattle.base.specs.declared.units.Mv.{Mv}
 use Rattle.base.proofs.Answered.{lowest}
 use Rattle.records.specs.Tables.{Tables}
@@ -18,7 +17,7 @@ use Rattle.lists.specs.declared.mv_ref.MvPair.{MvPair}
 pub find_lowest : (t : Tables) (g : MvRefGeometry) (target block : ℤ) (on : Bool) → Lowest (search_rows t g target block on)
 find_lowest t g target block on = lowest (search_rows t g target block on) refl
 
-pub append_lowest : (t : Tables) (g : MvRefGeometry) (target : ℤ) (b : ℕ) (m : List (List Eighth)) (on : Bool) → Lowest (append_rows t g target b m on)
+pub append_lowest : (t : Tables) (g : MvRefGeometry) (target : ℤ) (b : ℕ) (m : List Mv) (on : Bool) → Lowest (append_rows t g target b m on)
 append_lowest t g target b m on = lowest (append_rows t g target b m on) refl
 
 pub best_lowest : (g : MvRefGeometry) (first second : Mv) → Lowest (best_rows g first second)
@@ -28,7 +27,7 @@ pub find_one : (t : Tables) (g : MvRefGeometry) (target block : ℤ) (bias : Lis
     → r ≡ find_mv_refs t g target block bias on → s ≡ find_mv_refs t g target block bias on → r ≡ s
 find_one t g target block bias on r s e f = e ∙ sym f
 
-pub append_one : (t : Tables) (g : MvRefGeometry) (target : ℤ) (b : ℕ) (m : List (List Eighth)) (bias : List Bool) (on : Bool) (r s : MvPair)
+pub append_one : (t : Tables) (g : MvRefGeometry) (target : ℤ) (b : ℕ) (m : List Mv) (bias : List Bool) (on : Bool) (r s : MvPair)
     → r ≡ append_mvs t g target b m bias on → s ≡ append_mvs t g target b m bias on → r ≡ s
 append_one t g target b m bias on r s e f = e ∙ sym f
 

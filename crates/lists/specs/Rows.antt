@@ -1,5 +1,5 @@
 -- Internal: the rows of the search's table, whatever its row 1 asks of the sub-block. Assumes nothing.
-use Rattle.std.specs.Prelude.{◌≤◌, ◌≡◌, Bool, true, List, [], ◌∷◌, ◌++◌, ℤ, pos}
+use Rattle.std.specs.Prelude.{Bool, List, [], ◌∷◌, ◌++◌, ℤ, pos}
 use Rattle.base.specs.Answer.{Row, row, BLOCK, GRID, TARGET, SHORT, RECORD}
 use Rattle.base.specs.Number.{between}
 use Rattle.records.specs.Tables.{Tables, grid_ok, long_enough}
@@ -16,7 +16,3 @@ table_rows t g use_prev = row SHORT (long_enough t g use_prev) ∷ row RECORD (l
 
 abbrev pub shared_rows : Tables → MvRefGeometry → ℤ → Bool → Bool → List Row
 shared_rows t g target right use_prev = call_rows right g target ++ table_rows t g use_prev
-
--- row 1 asks for a block size of at most 12, whatever else it asks for
-unfoldable pub Sized : Bool → MvRefGeometry → Type 0
-Sized right g = right ≡ true → g.mi_size ≤ 12

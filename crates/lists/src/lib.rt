@@ -4,5 +4,5 @@
 mod mv_ref;
 
 pub use mv_ref::{
-    MvPair, MvRefs, clamp_ref, find_best_ref_mvs, find_mv_refs, search_refusal, zero_mv,
+    Best, MvPair, MvRefs, clamp_ref, find_best_ref_mvs, find_mv_refs, search_allowed,
 };

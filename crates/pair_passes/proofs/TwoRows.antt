@@ -48,13 +48,13 @@ even_pair max p l s line start y0 w n same i c ni cw =
     (fifth_is l 1 (s + i * line + c) ∙ ap (λ (k : ℕ). get_or l k 0) place ∙ same i (c + 1) ni (omega arith)
     ∙ ap (λ (k : ℕ). plane p v (min (k - 200003) last)) next))
 
--- the lines of rows y0 + i and on give rows i and on of the pass
-pub chunk_pair : (max : ℕ) (p : Lent) (lines : List ℕ) (start y0 i w m : ℕ) → HeldLines p (start / 16 + 3) (y0 + i) m (w + 1) lines
-    → (r c : ℕ) → r < m → c < w → pair_rows max (start % 16) lines 1 0 71 r c ≡ across_from max (tap 3) p start 16 y0 (i + r) c
-chunk_pair max p lines start y0 i w m held r c rm cw =
-    even_pair max p lines 0 71 start (y0 + i) w m
-    (λ k d km dw. ap (λ (j : ℕ). get_or lines (j + d) 0) (zero-add (k * 71)) ∙ held.is k d km dw) r c rm cw
-    ∙ across_on max (tap 3) p start 16 y0 i r c
+-- the line of row y0 + j gives row j of the pass
+pub line_is : (max : ℕ) (p : Lent) (line : List ℕ) (start y0 j w : ℕ) → HeldLines p (start / 16 + 3) (y0 + j) 1 (w + 1) line
+    → (c : ℕ) → c < w → pair_rows max (start % 16) line 1 0 71 0 c ≡ across_from max (tap 3) p start 16 y0 j c
+line_is max p line start y0 j w held c cw =
+    even_pair max p line 0 71 start (y0 + j) w 1
+    (λ k d km dw. ap (λ (u : ℕ). get_or line (u + d) 0) (zero-add (k * 71)) ∙ held.is k d km dw) 0 c (omega arith) cw
+    ∙ across_on max (tap 3) p start 16 y0 j c
 
 -- a line that has the held samples from the start's fourth column on
 pub line_pair : (max : ℕ) (row line : List ℕ) (last start step w d : ℕ)
@@ -111,12 +111,6 @@ low_even max room w h held = record {
   fifth = λ r c rh cw.
       let place : 0 + r * 64 + c + 64 ≡ (r + 1) * 64 + c = omega arith in
       rw place (held.le (r + 1) c (omega arith) cw);
-}
-
-pub held_even : (max : ℕ) (room : List ℕ) (start step h w : ℕ) → step ≡ 16 → 0 < h → HeldRoom max room ((start % 16 + step * (h - 1)) / 16 + 2) w
-    → HeldRoom max room (h + 1) w
-held_even max room start step h w e some held = record {
-  le = λ i c ih cw. let far : step * (h - 1) ≡ 16 * (h - 1) = ap (λ (k : ℕ). k * (h - 1)) e in held.le i c (omega arith) cw;
 }
 
 -- the vertical pass over what the horizontal one left in the room

@@ -5,115 +5,64 @@ ghost use Rattle.base.specs.Paint.{fill, paint};
 ghost use Rattle.taps.specs.Taps.{tap};
 ghost use Rattle.taps.specs.Kernel.{levels, mean_of};
 ghost use Rattle.pairs.specs.Pair.{pair_ran, Low};
-ghost use Rattle.planes.specs.Plane.{holds, fits, view};
-ghost use Rattle.passes.specs.Lifted.{across_from, block_at, mean_with, HeldRoom};
+ghost use Rattle.planes.specs.Plane.{holds};
+ghost use Rattle.planes.specs.Seen.{seen};
+ghost use Rattle.passes.specs.Lifted.{across_from, block_at, written, HeldRoom};
 ghost use Rattle.pair_passes.specs.PairDown.{pair_down};
 
-use kernels::{gather, held};
-use pairs::{row_stepped, rows_any, rows_are_low, rows_low};
-use passes::{band_of, gather_rows, pass_rows, row_in, rows_averaged, unheld, whole};
-use planes::plane_row;
-use taps::row_averaged;
+use kernels::gather;
+use pairs::{Phase, row_stepped, rows_any, rows_are_low, rows_low};
+use passes::{Area, Axis, gather_rows, lifted_row, pass_rows, rows_averaged, straight};
+use planes::Bands;
+use taps::{ORIGIN, row_averaged};
 
-// The phase of a position: its sixteenths past a whole one.
-fn phase_of(q: usize) -> u16
-    ensures { (result ≡ q % 16) × (result < 16) }
-{
-    (q % 16) as u16
-}
-
-// The horizontal pass in steps of 16 near an edge: row by row, over a line of held samples.
+// The horizontal pass in steps of 16 near an edge: row by row, over a line of held samples. This, pass_even and pass_stepped are formed as `passes` forms
+// its own: a trait over both kinds of rows, with two constants, two methods, their laws and two impls, would be longer than these three.
 fn pass_gathered<'a>(
-    upper: &'a [u16],
-    lower: &'a [u16],
-    pw: usize,
-    ph: usize,
-    stride: usize,
-    k: usize,
+    plane: Bands<'a>,
     start: usize,
     y0: usize,
-    n: usize,
-    w: usize,
-    max: u16,
+    area: Area,
     room: &mut [u16],
     rs: usize,
 )
-    requires start_bound { (start ≤ 6200000) × (0 < w) × (w ≤ 64) × (0 < pw) × (0 < ph) × (y0 ≤ 400003) × (n ≤ 134) × (max ≤ 4095) }
-    requires lower_value { fits (view pw ph stride k upper.now lower.now) ≡ true }
-    requires room_value { holds n rs w (length room.old) ≡ true }
-    ensures { room.new ≡ paint room.old rs w n
-        (across_from max (tap 3) (view pw ph stride k upper.now lower.now) start 16 y0) }
+    requires places { (start ≤ 6200000) × (y0 ≤ 400003) }
+    requires room_value { holds area.height rs area.width (length room.old) ≡ true }
+    ensures { room.new ≡ paint room.old rs area.width area.height
+        (across_from area.max (tap 3) (seen plane.entry) start 16 y0) }
 {
-    let p = phase_of(start);
-    let b = start / 16 + 3;
+    let p = Phase::of(start);
     // Of at most 256 bytes: the compiler has C's memset write zeros to a larger one first.
-    let mut lines = [1u16; 80];
-    let mut done = 0;
-    while done < n {
-        gather_rows(
-            upper,
-            lower,
-            pw,
-            ph,
-            stride,
-            k,
-            b,
-            y0 + done,
-            1,
-            w + 1,
-            &mut lines,
-        );
-        rows_any(&lines, 0, 71, p, w, max, 1, room, done * rs, rs);
-        done += 1;
+    let mut line = [1u16; 80];
+    for j in 0..area.height {
+        gather_rows(plane, start / 16 + 3, y0 + j, 1, area.width + 1, &mut line);
+        rows_any(&line, 0, 71, p, area.width, area.max, 1, room, j * rs, rs);
     }
 }
 
 // The horizontal pass in steps of 16: all rows at once from the band that has them, where nothing has to be held.
-fn pass_even<'a>(
-    upper: &'a [u16],
-    lower: &'a [u16],
-    pw: usize,
-    ph: usize,
-    stride: usize,
-    k: usize,
-    start: usize,
-    y0: usize,
-    n: usize,
-    w: usize,
-    max: u16,
-    room: &mut [u16],
-    rs: usize,
-)
-    requires start_bound { (start ≤ 6200000) × (0 < w) × (w ≤ 64) × (0 < pw) × (0 < ph) × (y0 ≤ 400003) × (0 < n) × (n ≤ 134) × (max ≤ 4095) }
-    requires lower_value { fits (view pw ph stride k upper.now lower.now) ≡ true }
-    requires room_value { holds n rs w (length room.old) ≡ true }
-    ensures { room.new ≡ paint room.old rs w n
-        (across_from max (tap 3) (view pw ph stride k upper.now lower.now) start 16 y0) }
+fn pass_even<'a>(plane: Bands<'a>, start: usize, y0: usize, area: Area, room: &mut [u16], rs: usize)
+    requires places { (start ≤ 6200000) × (y0 ≤ 400003) }
+    requires room_value { holds area.height rs area.width (length room.old) ≡ true }
+    ensures { room.new ≡ paint room.old rs area.width area.height
+        (across_from area.max (tap 3) (seen plane.entry) start 16 y0) }
 {
-    let b = start / 16 + 3;
-    if unheld(b, w + 1, pw) & unheld(y0, n, ph) {
-        let d = b - 200003;
-        let e = y0 - 200003;
-        if whole(e, n, k) {
-            let l = band_of(upper, lower, e < k);
-            rows_any(
-                l,
-                row_in(e, k) * stride + d,
-                stride,
-                phase_of(start),
-                w,
-                max,
-                n,
-                room,
-                0,
-                rs,
-            );
-            return;
-        }
+    if let Some((band, s)) = straight(plane, start / 16 + 3, y0, area.width + 1, area.height) {
+        rows_any(
+            band,
+            s,
+            plane.stride,
+            Phase::of(start),
+            area.width,
+            area.max,
+            area.height,
+            room,
+            0,
+            rs,
+        );
+        return;
     }
-    pass_gathered(
-        upper, lower, pw, ph, stride, k, start, y0, n, w, max, room, rs,
-    )
+    pass_gathered(plane, start, y0, area, room, rs)
 }
 
 // At most 32 results whose phase changes, over a line of held samples.
@@ -135,7 +84,7 @@ fn few_gathered(
     // Of at most 256 bytes: the compiler has C's memset write zeros to a larger one first.
     let mut line = [1u16; 80];
     gather(row, last, b, m, &mut line, 0);
-    row_stepped(&line, 0, start % 16, step, w, max, out, at)
+    row_stepped(&line, 0, Phase::of(start), step, w, max, out, at)
 }
 
 // The same of any width: a wide one in two parts, so that the line is short.
@@ -177,467 +126,243 @@ fn row_across(
 {
     let b = start / 16 + 3;
     let m = (start % 16 + step * (w - 1)) / 16 + 2;
-    if 200003 <= b {
-        let d = b - 200003;
-        if d + m <= last + 1 {
-            row_stepped(row, d, start % 16, step, w, max, out, at);
-            return;
-        }
+    match b.checked_sub(ORIGIN) {
+        Some(d) if d + m <= last + 1 => row_stepped(
+            row,
+            d,
+            Phase::of(start),
+            step,
+            w,
+            max,
+            out,
+            at,
+        ),
+        _ => row_gathered(row, last, start, step, w, max, out, at),
     }
-    row_gathered(row, last, start, step, w, max, out, at)
 }
 
 // The horizontal pass, row by row.
-fn pass_stepped<'a>(
-    upper: &'a [u16],
-    lower: &'a [u16],
-    pw: usize,
-    ph: usize,
-    stride: usize,
-    k: usize,
-    start: usize,
-    step: usize,
-    y0: usize,
-    n: usize,
-    w: usize,
-    max: u16,
-    room: &mut [u16],
-    rs: usize,
-)
-    requires start_bound { (start ≤ 6200000) × (step ≤ 32) × (0 < w) × (w ≤ 64) × (0 < pw) × (0 < ph) × (y0 ≤ 400003) × (n ≤ 134) }
-    requires lower_value { fits (view pw ph stride k upper.now lower.now) ≡ true }
-    requires room_value { holds n rs w (length room.old) ≡ true }
-    ensures { room.new ≡ paint room.old rs w n
-        (across_from max (tap 3) (view pw ph stride k upper.now lower.now) start step y0) }
+fn pass_stepped<'a>(plane: Bands<'a>, x: Axis, y0: usize, area: Area, room: &mut [u16], rs: usize)
+    requires places { y0 ≤ 400003 }
+    requires room_value { holds area.height rs area.width (length room.old) ≡ true }
+    ensures { room.new ≡ paint room.old rs area.width area.height
+        (across_from area.max (tap 3) (seen plane.entry) x.start x.step y0) }
 {
-    let mut i = 0;
-    while i < n {
-        let y = held(y0 + i, ph - 1);
-        let r = plane_row(upper, lower, pw, ph, stride, k, y);
-        row_across(r, pw - 1, start, step, w, max, room, i * rs);
-        i += 1;
+    for i in 0..area.height {
+        let row = lifted_row(plane, y0 + i);
+        row_across(
+            row,
+            plane.width - 1,
+            x.start,
+            x.step,
+            area.width,
+            area.max,
+            room,
+            i * rs,
+        );
     }
 }
 
 // The horizontal pass, whatever the columns: whole ones in steps of 16 are copies.
-fn pass_pairs<'a>(
-    upper: &'a [u16],
-    lower: &'a [u16],
-    pw: usize,
-    ph: usize,
-    stride: usize,
-    k: usize,
-    start: usize,
-    step: usize,
-    y0: usize,
-    n: usize,
-    w: usize,
-    max: u16,
-    room: &mut [u16],
-    rs: usize,
-)
-    requires start_bound { (start ≤ 6200000) × (step ≤ 32) × (0 < w) × (w ≤ 64) × (0 < pw) × (0 < ph) × (y0 ≤ 400003) × (0 < n) × (n ≤ 134) × (max ≤ 4095) }
-    requires lower_value { fits (view pw ph stride k upper.now lower.now) ≡ true }
-    requires room_value { holds n rs w (length room.old) ≡ true }
-    ensures { room.new ≡ paint room.old rs w n
-        (across_from max (tap 3) (view pw ph stride k upper.now lower.now) start step y0) }
+fn pass_pairs<'a>(plane: Bands<'a>, x: Axis, y0: usize, area: Area, room: &mut [u16], rs: usize)
+    requires places { y0 ≤ 400003 }
+    requires room_value { holds area.height rs area.width (length room.old) ≡ true }
+    ensures { room.new ≡ paint room.old rs area.width area.height
+        (across_from area.max (tap 3) (seen plane.entry) x.start x.step y0) }
 {
-    if step != 16 {
-        pass_stepped(
-            upper, lower, pw, ph, stride, k, start, step, y0, n, w, max, room, rs,
-        );
+    if x.step != 16 {
+        pass_stepped(plane, x, y0, area, room, rs);
         return;
     }
-    if start % 16 == 0 {
-        pass_rows(
-            upper, lower, pw, ph, stride, k, start, step, y0, n, 3, w, max, room, rs,
-        );
+    if x.start % 16 == 0 {
+        pass_rows(plane, x, y0, 3, area, room, rs);
         return;
     }
-    pass_even(
-        upper, lower, pw, ph, stride, k, start, y0, n, w, max, room, rs,
-    )
+    pass_even(plane, x.start, y0, area, room, rs)
 }
 
 // The vertical pass where the phase is one for all rows.
-fn down_even(
-    room: &[u16],
-    start: usize,
-    w: usize,
-    h: usize,
-    max: u16,
-    out: &mut [u16],
-    stride: usize,
-)
-    requires w_bound { (w ≤ 64) × (0 < h) × (h ≤ 64) × (8576 ≤ length room.now) × (max ≤ 4095) }
-    requires out_value { holds h stride w (length out.old) ≡ true }
-    requires held_room { HeldRoom max room.now (h + 1) w }
-    ensures { out.new ≡ paint out.old stride w h (pair_down max room.now start 16) }
+fn down_even(room: &[u16], start: usize, area: Area, out: &mut [u16], stride: usize)
+    requires high { (area.height ≤ 64) × (8576 ≤ length room.now) }
+    requires out_value { holds area.height stride area.width (length out.old) ≡ true }
+    requires held_room { HeldRoom area.max room.now (area.height + 1) area.width }
+    ensures { out.new ≡ paint out.old stride area.width area.height
+        (pair_down area.max room.now start 16) }
 {
-    rows_low(room, 0, 64, 64, phase_of(start), w, max, h, out, 0, stride)
+    let Area { width, height, max } = area;
+    let phase = Phase::of(start);
+    rows_low(room, 0, 64, 64, phase, width, max, height, out, 0, stride)
+}
+
+// A row of vertical results, averaged with what stands in the output where a mean is asked for.
+fn row_written(
+    room: &[u16],
+    b: usize,
+    p: Phase,
+    w: usize,
+    max: u16,
+    mean: bool,
+    out: &mut [u16],
+    at: usize,
+)
+    requires bounds { (max ≤ 4095) × (w ≤ 64) × (b + w + 64 ≤ length room.now) × (at + w ≤ length out.old) }
+    requires low { Low max room.now 64 b 0 w 1 }
+    ensures { out.new ≡ fill out.old at w (cond mean
+        (mean_of out.old at (pair_ran max p.sixteenths room.now 64 b))
+        (pair_ran max p.sixteenths room.now 64 b)) }
+{
+    if mean {
+        let mut line = [0u16; 64];
+        rows_low(room, b, 64, 0, p, w, max, 1, &mut line, 0, 0);
+        row_averaged(&line, 0, w, out, at);
+        return;
+    }
+    rows_low(room, b, 64, 0, p, w, max, 1, out, at, 0)
 }
 
 // The vertical pass where the phase changes from row to row.
-fn down_stepped(
-    room: &[u16],
-    start: usize,
-    step: usize,
-    w: usize,
-    h: usize,
-    max: u16,
-    out: &mut [u16],
-    stride: usize,
-)
-    requires start_bound { (start ≤ 6400000) × (step ≤ 32) × (w ≤ 64) × (h ≤ 64) × (8576 ≤ length room.now) × (max ≤ 4095) }
-    requires out_value { holds h stride w (length out.old) ≡ true }
-    requires held_room { HeldRoom max room.now ((start % 16 + step * (h - 1)) / 16 + 2) w }
-    ensures { out.new ≡ paint out.old stride w h (pair_down max room.now start step) }
+fn down_stepped(room: &[u16], y: Axis, area: Area, mean: bool, out: &mut [u16], stride: usize)
+    requires bounds { (area.height ≤ 64) × (8576 ≤ length room.now) }
+    requires apart { mean ≡ true → area.width ≤ stride }
+    requires out_value { holds area.height stride area.width (length out.old) ≡ true }
+    requires held_room { HeldRoom area.max room.now ((y.start % 16 + y.step * (area.height - 1)) / 16 + 2) area.width }
+    ensures { out.new ≡ paint out.old stride area.width area.height
+        (written mean out.old stride (pair_down area.max room.now y.start y.step)) }
 {
-    let mut r = 0;
-    while r < h {
-        let q = start + step * r;
-        let b = q / 16 - start / 16;
-        rows_low(
+    for r in 0..area.height {
+        let q = y.start + y.step * r;
+        let b = q / 16 - y.start / 16;
+        row_written(
             room,
             b * 64,
-            64,
-            0,
-            phase_of(q),
-            w,
-            max,
-            1,
+            Phase::of(q),
+            area.width,
+            area.max,
+            mean,
             out,
             r * stride,
-            0,
         );
-        r += 1;
     }
 }
 
-// The vertical pass: h rows of the output.
-fn pass_down(
-    room: &[u16],
-    start: usize,
-    step: usize,
-    w: usize,
-    h: usize,
-    max: u16,
-    out: &mut [u16],
-    stride: usize,
-)
-    requires start_bound { (start ≤ 6400000) × (step ≤ 32) × (w ≤ 64) × (0 < h) × (h ≤ 64) × (8576 ≤ length room.now) × (max ≤ 4095) }
-    requires out_value { holds h stride w (length out.old) ≡ true }
-    requires held_room { HeldRoom max room.now ((start % 16 + step * (h - 1)) / 16 + 2) w }
-    ensures { out.new ≡ paint out.old stride w h (pair_down max room.now start step) }
+// The vertical pass: the rows of the output, averaged with what stands there where a mean is asked for.
+fn pass_down(room: &[u16], y: Axis, area: Area, mean: bool, out: &mut [u16], stride: usize)
+    requires bounds { (area.height ≤ 64) × (8576 ≤ length room.now) }
+    requires apart { mean ≡ true → area.width ≤ stride }
+    requires out_value { holds area.height stride area.width (length out.old) ≡ true }
+    requires held_room { HeldRoom area.max room.now ((y.start % 16 + y.step * (area.height - 1)) / 16 + 2) area.width }
+    ensures { out.new ≡ paint out.old stride area.width area.height
+        (written mean out.old stride (pair_down area.max room.now y.start y.step)) }
 {
-    if step == 16 {
-        down_even(room, start, w, h, max, out, stride);
+    if !mean & (y.step == 16) {
+        down_even(room, y.start, area, out, stride);
         return;
     }
-    down_stepped(room, start, step, w, h, max, out, stride)
-}
-
-// A row of vertical results, averaged with what stands in the output.
-fn row_mean(room: &[u16], b: usize, p: u16, w: usize, max: u16, out: &mut [u16], at: usize)
-    requires p_bound { (p < 16) × (max ≤ 4095) × (w ≤ 64) × (b + w + 64 ≤ length room.now) × (at + w ≤ length out.old) }
-    requires low { Low max room.now 64 b 0 w 1 }
-    ensures { out.new ≡ fill out.old at w (mean_of out.old at (pair_ran max p room.now 64 b)) }
-{
-    let mut line = [0u16; 64];
-    rows_low(room, b, 64, 0, p, w, max, 1, &mut line, 0, 0);
-    row_averaged(&line, 0, w, out, at)
-}
-
-// The vertical pass, averaged into the output.
-fn pass_down_mean(
-    room: &[u16],
-    start: usize,
-    step: usize,
-    w: usize,
-    h: usize,
-    max: u16,
-    out: &mut [u16],
-    stride: usize,
-)
-    requires start_bound { (start ≤ 6400000) × (step ≤ 32) × (w ≤ 64) × (h ≤ 64) × (8576 ≤ length room.now) × (w ≤ stride) × (max ≤ 4095) }
-    requires out_value { holds h stride w (length out.old) ≡ true }
-    requires held_room { HeldRoom max room.now ((start % 16 + step * (h - 1)) / 16 + 2) w }
-    ensures { out.new ≡ paint out.old stride w h
-        (mean_with out.old stride (pair_down max room.now start step)) }
-{
-    let mut r = 0;
-    while r < h {
-        let q = start + step * r;
-        let b = q / 16 - start / 16;
-        row_mean(room, b * 64, phase_of(q), w, max, out, r * stride);
-        r += 1;
-    }
+    down_stepped(room, y, area, mean, out, stride)
 }
 
 // A block by both passes, the first into the room.
 fn through_room<'a>(
-    upper: &'a [u16],
-    lower: &'a [u16],
-    pw: usize,
-    ph: usize,
-    stride: usize,
-    k: usize,
-    sx: usize,
-    stepx: usize,
-    sy: usize,
-    stepy: usize,
-    w: usize,
-    h: usize,
-    max: u16,
+    plane: Bands<'a>,
+    x: Axis,
+    y: Axis,
+    area: Area,
+    mean: bool,
     room: &mut [u16],
     out: &mut [u16],
-    ostride: usize,
+    stride: usize,
 )
-    requires sx_bound { (sx ≤ 6200000) × (stepx ≤ 32) × (sy ≤ 6200000) × (stepy ≤ 32) × (0 < w) × (w ≤ 64) × (0 < h) × (h ≤ 64) }
-    requires pw_nonzero { (0 < pw) × (0 < ph) × (8576 ≤ length room.old) }
-    requires lower_value { fits (view pw ph stride k upper.now lower.now) ≡ true }
-    requires out_value { holds h ostride w (length out.old) ≡ true }
-    requires max_bound { max ≤ 4095 }
-    ensures { out.new ≡ paint out.old ostride w h
-        (block_at max (tap 3) (view pw ph stride k upper.now lower.now) sx stepx sy stepy) }
+    requires bounds { (area.height ≤ 64) × (8576 ≤ length room.old) }
+    requires apart { mean ≡ true → area.width ≤ stride }
+    requires out_value { holds area.height stride area.width (length out.old) ≡ true }
+    ensures { out.new ≡ paint out.old stride area.width area.height (written mean out.old stride
+        (block_at area.max (tap 3) (seen plane.entry) x.start x.step y.start y.step)) }
 {
-    let n = (sy % 16 + stepy * (h - 1)) / 16 + 2;
-    pass_pairs(
-        upper,
-        lower,
-        pw,
-        ph,
-        stride,
-        k,
-        sx,
-        stepx,
-        sy / 16 + 3,
-        n,
-        w,
-        max,
-        room,
-        64,
-    );
-    pass_down(room, sy, stepy, w, h, max, out, ostride)
+    let rows = Area {
+        width: area.width,
+        height: (y.start % 16 + y.step * (area.height - 1)) / 16 + 2,
+        max: area.max,
+    };
+    pass_pairs(plane, x, y.start / 16 + 3, rows, room, 64);
+    pass_down(room, y, area, mean, out, stride)
 }
 
 // A block of whole columns in steps of 16: straight from the band that has its rows, where nothing has to be held, no sample to max either.
 fn whole_columns<'a>(
-    upper: &'a [u16],
-    lower: &'a [u16],
-    pw: usize,
-    ph: usize,
-    stride: usize,
-    k: usize,
-    sx: usize,
-    sy: usize,
-    w: usize,
-    h: usize,
-    max: u16,
+    plane: Bands<'a>,
+    x: Axis,
+    y: Axis,
+    area: Area,
     room: &mut [u16],
     out: &mut [u16],
-    ostride: usize,
+    stride: usize,
 )
-    requires sx_bound { (sx ≤ 6200000) × (sx % 16 ≡ 0) × (sy ≤ 6200000) × (0 < w) × (w ≤ 64) × (0 < h) × (h ≤ 64) }
-    requires pw_nonzero { (0 < pw) × (0 < ph) × (8576 ≤ length room.old) }
-    requires lower_value { fits (view pw ph stride k upper.now lower.now) ≡ true }
-    requires out_value { holds h ostride w (length out.old) ≡ true }
-    requires max_bound { max ≤ 4095 }
-    ensures { out.new ≡ paint out.old ostride w h
-        (block_at max (tap 3) (view pw ph stride k upper.now lower.now) sx 16 sy 16) }
+    requires even { (x.start % 16 ≡ 0) × (x.step ≡ 16) × (y.step ≡ 16) }
+    requires bounds { (area.height ≤ 64) × (8576 ≤ length room.old) }
+    requires out_value { holds area.height stride area.width (length out.old) ≡ true }
+    ensures { out.new ≡ paint out.old stride area.width area.height
+        (block_at area.max (tap 3) (seen plane.entry) x.start x.step y.start y.step) }
 {
-    let b = sx / 16 + 3;
-    let y0 = sy / 16 + 3;
-    if unheld(b, w, pw) & unheld(y0, h + 1, ph) {
-        let e = y0 - 200003;
-        if whole(e, h + 1, k) {
-            let l = band_of(upper, lower, e < k);
-            let s = row_in(e, k) * stride + (b - 200003);
-            if rows_are_low(l, s, stride, w, 0, h + 1, max) {
-                rows_low(
-                    l,
-                    s,
-                    stride,
-                    stride,
-                    phase_of(sy),
-                    w,
-                    max,
-                    h,
-                    out,
-                    0,
-                    ostride,
-                );
-                return;
-            }
+    let b = x.start / 16 + 3;
+    let y0 = y.start / 16 + 3;
+    if let Some((band, s)) = straight(plane, b, y0, area.width, area.height + 1) {
+        if rows_are_low(
+            band,
+            s,
+            plane.stride,
+            area.width,
+            0,
+            area.height + 1,
+            area.max,
+        ) {
+            rows_low(
+                band,
+                s,
+                plane.stride,
+                plane.stride,
+                Phase::of(y.start),
+                area.width,
+                area.max,
+                area.height,
+                out,
+                0,
+                stride,
+            );
+            return;
         }
     }
-    through_room(
-        upper, lower, pw, ph, stride, k, sx, 16, sy, 16, w, h, max, room, out, ostride,
-    )
+    through_room(plane, x, y, area, false, room, out, stride)
 }
 
-// A block from one reference. Whole rows in steps of 16 need no vertical pass.
-fn one_block<'a>(
-    upper: &'a [u16],
-    lower: &'a [u16],
-    pw: usize,
-    ph: usize,
-    stride: usize,
-    k: usize,
-    sx: usize,
-    stepx: usize,
-    sy: usize,
-    stepy: usize,
-    w: usize,
-    h: usize,
-    max: u16,
-    room: &mut [u16],
-    out: &mut [u16],
-    ostride: usize,
-)
-    requires sx_bound { (sx ≤ 6200000) × (stepx ≤ 32) × (sy ≤ 6200000) × (stepy ≤ 32) × (0 < w) × (w ≤ 64) × (0 < h) × (h ≤ 64) }
-    requires pw_nonzero { (0 < pw) × (0 < ph) × (8576 ≤ length room.old) }
-    requires lower_value { fits (view pw ph stride k upper.now lower.now) ≡ true }
-    requires out_value { holds h ostride w (length out.old) ≡ true }
-    requires max_bound { max ≤ 4095 }
-    ensures { out.new ≡ paint out.old ostride w h
-        (block_at max (tap 3) (view pw ph stride k upper.now lower.now) sx stepx sy stepy) }
-{
-    if (sy % 16 == 0) & (stepy == 16) {
-        pass_pairs(
-            upper,
-            lower,
-            pw,
-            ph,
-            stride,
-            k,
-            sx,
-            stepx,
-            sy / 16 + 3,
-            h,
-            w,
-            max,
-            out,
-            ostride,
-        );
-        return;
-    }
-    if (sx % 16 == 0) & (stepx == 16) & (stepy == 16) {
-        whole_columns(
-            upper, lower, pw, ph, stride, k, sx, sy, w, h, max, room, out, ostride,
-        );
-        return;
-    }
-    through_room(
-        upper, lower, pw, ph, stride, k, sx, stepx, sy, stepy, w, h, max, room, out, ostride,
-    )
-}
-
-// The same, averaged with what stands in the output.
-fn mean_block<'a>(
-    upper: &'a [u16],
-    lower: &'a [u16],
-    pw: usize,
-    ph: usize,
-    stride: usize,
-    k: usize,
-    sx: usize,
-    stepx: usize,
-    sy: usize,
-    stepy: usize,
-    w: usize,
-    h: usize,
-    max: u16,
-    room: &mut [u16],
-    out: &mut [u16],
-    ostride: usize,
-)
-    requires sx_bound { (sx ≤ 6200000) × (stepx ≤ 32) × (sy ≤ 6200000) × (stepy ≤ 32) × (0 < w) × (w ≤ 64) × (0 < h) × (h ≤ 64) }
-    requires pw_nonzero { (0 < pw) × (0 < ph) × (8576 ≤ length room.old) × (w ≤ ostride) }
-    requires lower_value { fits (view pw ph stride k upper.now lower.now) ≡ true }
-    requires out_value { holds h ostride w (length out.old) ≡ true }
-    requires max_bound { max ≤ 4095 }
-    ensures { out.new ≡ paint out.old ostride w h
-        (mean_with out.old ostride
-        (block_at max (tap 3) (view pw ph stride k upper.now lower.now) sx stepx sy stepy)) }
-{
-    if (sy % 16 == 0) & (stepy == 16) {
-        pass_pairs(
-            upper,
-            lower,
-            pw,
-            ph,
-            stride,
-            k,
-            sx,
-            stepx,
-            sy / 16 + 3,
-            h,
-            w,
-            max,
-            room,
-            64,
-        );
-        rows_averaged(room, w, h, out, ostride);
-        return;
-    }
-    let n = (sy % 16 + stepy * (h - 1)) / 16 + 2;
-    pass_pairs(
-        upper,
-        lower,
-        pw,
-        ph,
-        stride,
-        k,
-        sx,
-        stepx,
-        sy / 16 + 3,
-        n,
-        w,
-        max,
-        room,
-        64,
-    );
-    pass_down_mean(room, sy, stepy, w, h, max, out, ostride)
-}
-
-// Either of them. A function of its own, since both callers of `blocks` stay short so.
+// A block from one reference, averaged with what stands in the output where a mean is asked for. Whole rows in steps of 16 need no vertical pass.
 pub fn pair_block<'a>(
-    upper: &'a [u16],
-    lower: &'a [u16],
-    pw: usize,
-    ph: usize,
-    stride: usize,
-    k: usize,
-    sx: usize,
-    stepx: usize,
-    sy: usize,
-    stepy: usize,
-    w: usize,
-    h: usize,
-    max: u16,
-    average: bool,
+    plane: Bands<'a>,
+    x: Axis,
+    y: Axis,
+    area: Area,
+    mean: bool,
     room: &mut [u16],
     out: &mut [u16],
-    ostride: usize,
+    stride: usize,
 )
-    requires sx_bound { (sx ≤ 6200000) × (stepx ≤ 32) × (sy ≤ 6200000) × (stepy ≤ 32) × (0 < w) × (w ≤ 64) × (0 < h) × (h ≤ 64) }
-    requires pw_nonzero { (0 < pw) × (0 < ph) × (8576 ≤ length room.old) × (average ≡ true → w ≤ ostride) }
-    requires lower_value { fits (view pw ph stride k upper.now lower.now) ≡ true }
-    requires out_value { holds h ostride w (length out.old) ≡ true }
-    requires max_bound { max ≤ 4095 }
-    ensures { out.new ≡ paint out.old ostride w h (cond average
-        (mean_with out.old ostride
-        (block_at max (tap 3) (view pw ph stride k upper.now lower.now) sx stepx sy stepy))
-        (block_at max (tap 3) (view pw ph stride k upper.now lower.now) sx stepx sy stepy)) }
+    requires bounds { (area.height ≤ 64) × (8576 ≤ length room.old) }
+    requires apart { mean ≡ true → area.width ≤ stride }
+    requires out_value { holds area.height stride area.width (length out.old) ≡ true }
+    ensures { out.new ≡ paint out.old stride area.width area.height (written mean out.old stride
+        (block_at area.max (tap 3) (seen plane.entry) x.start x.step y.start y.step)) }
 {
-    if average {
-        mean_block(
-            upper, lower, pw, ph, stride, k, sx, stepx, sy, stepy, w, h, max, room, out, ostride,
-        );
+    if (y.start % 16 == 0) & (y.step == 16) {
+        if mean {
+            pass_pairs(plane, x, y.start / 16 + 3, area, room, 64);
+            rows_averaged(room, area.width, area.height, out, stride);
+            return;
+        }
+        pass_pairs(plane, x, y.start / 16 + 3, area, out, stride);
         return;
     }
-    one_block(
-        upper, lower, pw, ph, stride, k, sx, stepx, sy, stepy, w, h, max, room, out, ostride,
-    )
+    if !mean & (x.start % 16 == 0) & (x.step == 16) & (y.step == 16) {
+        whole_columns(plane, x, y, area, room, out, stride);
+        return;
+    }
+    through_room(plane, x, y, area, mean, room, out, stride)
 }

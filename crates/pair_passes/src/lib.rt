@@ -1,5 +1,5 @@
 // Both passes of filter 3 over a block. Only `blocks` calls it.
-#![tactic(auto)]
+#![tactic(auto, using(taps::proofs::Loops::paint_none))]
 
 mod both;
 

@@ -2,8 +2,8 @@
 -- sixteen bits and needs no holding. Assumes nothing.
 use mathlib.Core.Path.{◌≡◌, refl, sym, ap, subst, ◌∙◌}
 use mathlib.Core.List.{List}
-use Prim.Native.Nat.{ℕ, zero, suc, ◌+◌, ◌-◌, ◌*◌, ◌/◌, ◌%◌, ◌<◌, ◌≤◌, min}
-use native.Mathlib.Nat.{add-mul, mul_assoc, mul-le-mul_left, add-zero, add_assoc}
+use Prim.Native.Nat.{ℕ, ◌+◌, ◌-◌, ◌*◌, ◌/◌, ◌%◌, ◌<◌, ◌≤◌, min}
+use native.Mathlib.Nat.{add-mul, mul_assoc, mul-le-mul_left, add_assoc}
 use native.Mathlib.Omega.{arith}
 use lib.IntN.{pos, ◌+ℤ◌}
 use lib.ListN.{length, get_or}
@@ -14,7 +14,7 @@ use Rattle.base.proofs.Painted.{length-fill, fill_at, fill_else, lt_or_ge}
 use Rattle.base.specs.Position.{to_n}
 use Rattle.taps.specs.Taps.{tap}
 use Rattle.taps.specs.Filter.{sum, filtered}
-use Rattle.taps.specs.Kernel.{fill_rows, UpTo, UpToRows}
+use Rattle.taps.specs.Kernel.{fill_rows, UpToRows}
 use Rattle.taps.proofs.Filtered.{filtered_is, filtered_same}
 use Rattle.taps.proofs.TapRules.{bilinear_tap, tap_bilinear}
 use Rattle.taps.proofs.Loops.{Filling, rows_same}
@@ -76,11 +76,6 @@ unfolding low_pair_rows low_pairs pair_rows pair_ran
 low_rows max p l out n b line w h at stride p16 m low =
     rows_same out at stride w h _ _
     (λ r c rh cw. low_two max p _ _ p16 m (low.fourth r c rh cw) (low.fifth r c rh cw) ∙ pair_at max p l n (b + r * line + c) p16)
-
--- the first result of a row
-pub low_first : (p : ℕ) (l : List ℕ) (n b : ℕ) {v : ℕ} → v ≡ low_pair p (get_or l b 0) (get_or l (b + n) 0) → v ≡ low_pairs p l n b 0
-unfolding low_pairs
-low_first p l n b e = e ∙ ap (λ (k : ℕ). low_pair p (get_or l k 0) (get_or l (k + n) 0)) (sym (add-zero b))
 
 -- rows whose samples were looked at, one column more than they have
 pub low_across : (max : ℕ) (l : List ℕ) (b line w h : ℕ) → UpToRows max l b line (w + 1) h → Low max l 1 b line w h
@@ -150,55 +145,3 @@ again_turn {l} {at} {w} {f} {now} {next} c m o g s mw fit place written same =
         (lt_or_ge j (at + o + m)))
         (lt_or_ge j (at + o)))
         (lt_or_ge j at)
-
--- ---- a number that no sample is above
-
-pub weaker : {v u : ℕ} {l : List ℕ} {b m : ℕ} → v ≤ u → UpTo v l b m → UpTo u l b m
-weaker h t = record { le = λ j lt. let x = t.le j lt in omega arith }
-
--- two runs side by side
-pub top_join : {u : ℕ} {l : List ℕ} {b c : ℕ} (m n : ℕ) → UpTo u l b m → UpTo u l c n → c ≡ b + m → UpTo u l b (m + n)
-top_join {u} {l} {b} {c} m n s t place = record {
-  le = λ j lt.
-      ⊎_elim
-      (λ first. s.le j first)
-      (λ later.
-      let e : c + (j - m) ≡ b + j = omega arith in
-      subst (λ (i : ℕ). get_or l i 0 ≤ u) e (t.le (j - m) (omega arith)))
-      (lt_or_ge j m);
-}
-
--- the next m of w, or the last m
-pub top_again : {u : ℕ} {l : List ℕ} {b w : ℕ} (c m o : ℕ) → UpTo u l b (min c w) → UpTo u l (b + o) m → m ≤ w → o ≡ min c (w - m)
-    → UpTo u l b (min (c + m) w)
-top_again {u} {l} {b} {w} c m o s t mw place =
-    let ov = overlapped c w m o mw place in
-    record {
-      le = λ j lt.
-          ⊎_elim
-          (λ first. s.le j first)
-          (λ later.
-          let e : b + o + (j - o) ≡ b + j = omega (arith, ov.0, later) in
-          subst (λ (i : ℕ). get_or l i 0 ≤ u) e (t.le (j - o) (omega (arith, ov.0, ov.1, later, lt))))
-          (lt_or_ge j (min c w));
-    }
-
-pub top_four : {u : ℕ} {l : List ℕ} (s : ℕ) → get_or l s 0 ≤ u → get_or l (s + 1) 0 ≤ u → get_or l (s + 2) 0 ≤ u → get_or l (s + 3) 0 ≤ u → UpTo u l s 4
-top_four {u} {l} s a b c d = record { le = four }
-  where
-    four : (j : ℕ) → j < 4 → get_or l (s + j) 0 ≤ u
-    four zero lt = rw add-zero a
-    four (suc zero) lt = b
-    four (suc (suc zero)) lt = c
-    four (suc (suc (suc zero))) lt = d
-    four (suc (suc (suc (suc n)))) lt = absurd (omega arith)
-
--- a row of w and the sample at its end, or one past it
-pub top_end : {u : ℕ} {l : List ℕ} {b w : ℕ} (more : ℕ) → 0 < w → more ≤ 1 → UpTo u l b w → get_or l (b + w - 1 + more) 0 ≤ u → UpTo u l b (w + more)
-top_end {u} {l} {b} {w} more some few s last = record {
-  le = λ j lt.
-      ⊎_elim
-      (λ first. s.le j first)
-      (λ later. let e : b + w - 1 + more ≡ b + j = omega arith in subst (λ (i : ℕ). get_or l i 0 ≤ u) e last)
-      (lt_or_ge j w);
-}

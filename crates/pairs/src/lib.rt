@@ -2,5 +2,7 @@
 #![tactic(auto)]
 
 mod pairs;
+mod phase;
 
 pub use pairs::{row_stepped, rows_any, rows_are_low, rows_low};
+pub use phase::Phase;

@@ -1,5 +1,6 @@
 -- The passes put together: a row of a plane, phase 0 down, and the vertical pass over what the horizontal one left. Assumes nothing.
 use mathlib.Core.Path.{◌≡◌, refl, sym, ap, ◌∙◌}
+use mathlib.Core.Bool.{Bool, true, false, cond}
 use mathlib.Core.List.{List}
 use Prim.Native.Nat.{ℕ, ◌+◌, ◌-◌, ◌*◌, ◌/◌, ◌%◌, ◌<◌, ◌≤◌}
 use native.Mathlib.Nat.{mul-le-mul_left, mul-le-mul_right, suc-mul, min-le_right, min-eq_left}
@@ -9,10 +10,11 @@ use lib.ListN.{length, get_or}
 use Rattle.base.specs.Paint.{fill, paint}
 use Rattle.base.proofs.Painted.{fill_same, paint_at, paint_else, paint_same, paint_over}
 use Rattle.taps.specs.Taps.{tap}
+use Rattle.taps.proofs.Loops.{Painting, paint_turn}
 use Rattle.planes.specs.Plane.{Lent, plane, row_of, width_of, height_of}
 use Rattle.taps.specs.Kernel.{apart, ran, seat, level, listed, levels, mean_of, Below, onward}
-use Rattle.passes.specs.Lifted.{across_from, down_at, down_even, block_at, mean_with, room_at, HeldRoom}
-use Rattle.planes.proofs.Bands.{row_at}
+use Rattle.passes.specs.Lifted.{across_from, down_at, down_even, block_at, mean_with, written, room_at, HeldRoom}
+use Rattle.planes.proofs.Fitting.{row_at}
 use Rattle.taps.proofs.Filtered.{samples_same, filtered_whole, filtered_max}
 
 -- samples that agree up to the last one
@@ -75,6 +77,25 @@ mean_unpainted out stride w r f g m ws =
     (λ i k ir kw q. omega (arith, suc-mul i stride, mul-le-mul_right stride ir)) in
     rw e)
 
+-- one row more, over the rows above it
+pub written_turn : {out : List ℕ} {stride w r : ℕ} {now next : List ℕ} (mean : Bool) (f : ℕ → ℕ → ℕ) → (mean ≡ true → w ≤ stride)
+    → Painting out stride w r (written mean out stride f) now
+    → next ≡ fill now (r * stride) w (cond mean (mean_of now (r * stride) (f r)) (f r))
+    → Painting out stride w (r + 1) (written mean out stride f) next
+unfolding mean_with
+written_turn {out} {stride} {w} {r} {now} {next} true f apart s e =
+    paint_turn s
+    (e ∙ ap (λ (o : List ℕ). fill now (r * stride) w (mean_of o (r * stride) (f r))) s.is
+    ∙ mean_unpainted out stride w r (mean_with out stride f) (f r) now (apart refl))
+written_turn false f apart s e = paint_turn s e
+
+pub written_same : (mean : Bool) (out : List ℕ) (stride w h : ℕ) (f g : ℕ → ℕ → ℕ) → ((r c : ℕ) → r < h → c < w → f r c ≡ g r c)
+    → paint out stride w h (written mean out stride f) ≡ paint out stride w h (written mean out stride g)
+unfolding mean_with mean_of
+written_same true out stride w h f g e =
+    paint_same out stride w h _ _ (λ r c rh cw. ap (λ (v : ℕ). (get_or out (r * stride + c) 0 + v + 1) / 2) (e r c rh cw))
+written_same false out stride w h f g e = paint_same out stride w h f g e
+
 -- whole rows left in the room
 pub room_whole : (max filter : ℕ) (p : Lent) (sx stepx sy w h : ℕ) (room : List ℕ) → filter < 4 → sy % 16 ≡ 0 → w ≤ 64 → (h - 1) * 64 + w ≤ length room
     → (r c : ℕ) → r < h → c < w
@@ -121,12 +142,6 @@ below_even max room w r h held rh = record {
   le = λ c t cw t8.
       let place : r * 64 + c + 64 * t ≡ (r + t) * 64 + c = omega arith in
       rw place (held.le (r + t) c (omega arith) cw);
-}
-
-pub held_even : (max : ℕ) (room : List ℕ) (start step h w : ℕ) → step ≡ 16 → HeldRoom max room ((start % 16 + step * (h - 1)) / 16 + 8) w
-    → HeldRoom max room (h + 7) w
-held_even max room start step h w e held = record {
-  le = λ i c ih cw. let far : step * (h - 1) ≡ 16 * (h - 1) = ap (λ (k : ℕ). k * (h - 1)) e in held.le i c (omega arith) cw;
 }
 
 pub down-even : (max : ℕ) (taps : ℕ → ℕ → ℤ) (room : List ℕ) (start r c : ℕ)

@@ -1,23 +1,23 @@
 -- Rows of copies are the horizontal pass at whole columns in steps of 16: a row of the plane, rows of one band, and the band's length.
 -- Assumes nothing.
-use mathlib.Core.Path.{◌≡◌, refl, sym, ap, ◌∙◌}
+use mathlib.Core.Path.{◌≡◌, sym, ap, ◌∙◌}
 use mathlib.Core.List.{List}
-use mathlib.Core.Bool.{Bool, true, false, cond, ◌||◌}
+use mathlib.Core.Bool.{Bool, true, false, ◌&&◌}
 use Prim.Native.Nat.{ℕ, ◌+◌, ◌-◌, ◌*◌, ◌/◌, ◌%◌, ◌<◌, ◌≤◌, min}
-use native.Mathlib.Nat.{zero-add, add-mul, le_refl, sub-le, min-le_right}
+use native.Mathlib.Nat.{zero-add, add-mul, mul-le-mul, min-le_right}
 use native.Mathlib.Omega.{arith}
-use borrow.Author.Tests.{leb-true, lt-leb, ltb-true, ltb-false, lt-ltb, le-ltb}
-use lib.Dec.{leb, ltb}
+use borrow.Author.Tests.{leb-true, lt-ltb, le-ltb}
+use lib.Dec.{ltb}
 use lib.IntN.{ℤ}
-use lib.ListN.{length, get_or}
+use lib.ListN.{get_or}
 use Rattle.base.proofs.Tests.{and_both}
 use Rattle.taps.specs.Taps.{tap}
 use Rattle.taps.specs.Kernel.{apart, clipped, held_from, level, ran, ran_rows, seat}
 use Rattle.copies.specs.Copy.{Rows, clipped_rows, still}
 use Rattle.taps.proofs.Filtered.{filtered_same, filtered_whole}
 use Rattle.planes.specs.Plane.{Lent, plane, row_of, width_of, height_of, holds, fits}
-use Rattle.passes.specs.Lifted.{across_from, copy_from, unheld}
-use Rattle.planes.proofs.Bands.{row_at, holds_row, fits_says}
+use Rattle.passes.specs.Lifted.{across_from, copy_from, unheld, Stands}
+use Rattle.planes.proofs.Fitting.{row_at, holds_row, fits_says}
 
 -- a row of the plane as a list
 pub row_held : (p : Lent) (v b c : ℕ) → 0 < width_of p.geom
@@ -71,105 +71,60 @@ not-before e k i h = le-ltb (e + i) k (omega arith)
 pub out-fits : (n stride w len : ℕ) → holds n stride w len ≡ true → Rows n stride w 0 len
 out-fits n stride w len h = record { ends = λ i ni. rw zero-add (holds_row n stride w len i h ni) }
 
-or_left : (a b : Bool) → (a || b) ≡ true → b ≡ false → a ≡ true
-or_left true b e f = refl
-or_left false b e f = sym f ∙ e
-
--- the first row of a rectangle, counted in its band, is no later than in the plane
-pub row_in_le : (r e k : ℕ) → r ≡ cond (ltb e k) e (e - k) → r ≤ e
-row_in_le r e k q = rw q (by-test (ltb e k))
-  where
-    by-test : (t : Bool) → cond t e (e - k) ≤ e
-    by-test true = le_refl e
-    by-test false = sub-le e k
+-- what both tests of a rectangle say
+pub inside : {s t : Bool} (b w x y0 n y : ℕ) → s ≡ unheld b w x → t ≡ unheld y0 n y → (s && t) ≡ true
+    → ((200003 ≤ b) × (b - 200003 + w ≤ x)) × ((200003 ≤ y0) × (y0 - 200003 + n ≤ y))
+inside {s} {t} b w x y0 n y e f both =
+    let each = and_both s t both in
+    (unheld_says b w x (sym e ∙ each.0), unheld_says y0 n y (sym f ∙ each.1))
 
 -- a rectangle inside the plane, in one of its bands
-module _ (max : ℕ) (p : Lent) (b y0 w n : ℕ) (in-x : unheld b w (width_of p.geom) ≡ true) (in-y : unheld y0 n (height_of p.geom) ≡ true)
+module _ (p : Lent) (b y0 w n : ℕ) (all : ((200003 ≤ b) × (b - 200003 + w ≤ width_of p.geom)) × ((200003 ≤ y0) × (y0 - 200003 + n ≤ height_of p.geom)))
     (fit : fits p ≡ true) where
-  x : (200003 ≤ b) × (b - 200003 + w ≤ width_of p.geom)
-  x = unheld_says b w (width_of p.geom) in-x
+  -- where its rows begin
+  pub near : (e : ℕ) → y0 ≤ 400003 → e ≤ y0 - 200003 → e * p.geom.stride ≤ 200000 * 131072
+  near e far le = mul-le-mul {n₂ = 200000} {m₂ = 131072} (omega arith) (fits_says p fit).near
 
-  y : (200003 ≤ y0) × (y0 - 200003 + n ≤ height_of p.geom)
-  y = unheld_says y0 n (height_of p.geom) in-y
-
-  pub upper_fits : y0 - 200003 + n ≤ p.geom.upper_rows
-      → Rows n p.geom.stride w ((y0 - 200003) * p.geom.stride + (b - 200003)) (length p.upper)
-  upper_fits h = record {
-    ends = λ i ni.
-        end_is (y0 - 200003) (b - 200003) p.geom.stride i w (width_of p.geom) _
-        (holds_row _ _ _ _ (y0 - 200003 + i) (fits_says p fit).upper (row-of _ n _ i h ni)) x.1;
+  pub in_upper : y0 - 200003 + n ≤ p.geom.upper_rows → Stands p b y0 w n p.upper ((y0 - 200003) * p.geom.stride + (b - 200003))
+  unfolding plane
+  in_upper h = record {
+    inside = record {
+      ends = λ i ni.
+          end_is (y0 - 200003) (b - 200003) p.geom.stride i w (width_of p.geom) _
+          (holds_row _ _ _ _ (y0 - 200003 + i) (fits_says p fit).upper (row-of _ n _ i h ni)) all.0.1;
+    };
+    is = λ i c ni cw.
+        rw (
+          at_inside y0 n (height_of p.geom) i all.1.0 all.1.1 ni,
+          at_inside b w (width_of p.geom) c all.0.0 all.0.1 cw,
+          lt-ltb _ _ (row-of _ n _ i h ni),
+          place_is (y0 - 200003) (b - 200003) p.geom.stride i c,
+        );
   }
 
-  pub lower_fits : p.geom.upper_rows ≤ y0 - 200003
-      → Rows n p.geom.stride w ((y0 - 200003 - p.geom.upper_rows) * p.geom.stride + (b - 200003)) (length p.lower)
-  lower_fits h = record {
-    ends = λ i ni.
-        end_is (y0 - 200003 - p.geom.upper_rows) (b - 200003) p.geom.stride i w (width_of p.geom) _
-        (holds_row _ _ _ _ (y0 - 200003 - p.geom.upper_rows + i) (fits_says p fit).lower (row_below _ n _ _ i h y.1 ni)) x.1;
+  pub in_lower : p.geom.upper_rows ≤ y0 - 200003
+      → Stands p b y0 w n p.lower ((y0 - 200003 - p.geom.upper_rows) * p.geom.stride + (b - 200003))
+  unfolding plane
+  in_lower h = record {
+    inside = record {
+      ends = λ i ni.
+          end_is (y0 - 200003 - p.geom.upper_rows) (b - 200003) p.geom.stride i w (width_of p.geom) _
+          (holds_row _ _ _ _ (y0 - 200003 - p.geom.upper_rows + i) (fits_says p fit).lower (row_below _ n _ _ i h all.1.1 ni)) all.0.1;
+    };
+    is = λ i c ni cw.
+        rw (
+          at_inside y0 n (height_of p.geom) i all.1.0 all.1.1 ni,
+          at_inside b w (width_of p.geom) c all.0.0 all.0.1 cw,
+          not-before _ _ i h,
+          less_add _ _ i h,
+          place_is (y0 - 200003 - p.geom.upper_rows) (b - 200003) p.geom.stride i c,
+        );
   }
 
-  -- what the band has where the rectangle reads
-  pub upper_at : y0 - 200003 + n ≤ p.geom.upper_rows → (i c : ℕ) → i < n → c < w
-      → get_or p.upper ((y0 - 200003) * p.geom.stride + (b - 200003) + i * p.geom.stride + c) 0
-      ≡ plane p (min (y0 + i - 200003) (height_of p.geom - 1)) (min (b + c - 200003) (width_of p.geom - 1))
-  unfolding plane
-  upper_at h i c ni cw =
-      rw (
-        at_inside y0 n (height_of p.geom) i y.0 y.1 ni,
-        at_inside b w (width_of p.geom) c x.0 x.1 cw,
-        lt-ltb _ _ (row-of _ n _ i h ni),
-        place_is (y0 - 200003) (b - 200003) p.geom.stride i c,
-      )
-
-  pub lower_at : p.geom.upper_rows ≤ y0 - 200003 → (i c : ℕ) → i < n → c < w
-      → get_or p.lower ((y0 - 200003 - p.geom.upper_rows) * p.geom.stride + (b - 200003) + i * p.geom.stride + c) 0
-      ≡ plane p (min (y0 + i - 200003) (height_of p.geom - 1)) (min (b + c - 200003) (width_of p.geom - 1))
-  unfolding plane
-  lower_at h i c ni cw =
-      rw (
-        at_inside y0 n (height_of p.geom) i y.0 y.1 ni,
-        at_inside b w (width_of p.geom) c x.0 x.1 cw,
-        not-before _ _ i h,
-        less_add _ _ i h,
-        place_is (y0 - 200003 - p.geom.upper_rows) (b - 200003) p.geom.stride i c,
-      )
-
-  -- the band that all the rows stand in, and the first row in it
-  module _ (l : List ℕ) (r : ℕ) (band : l ≡ cond (ltb (y0 - 200003) p.geom.upper_rows) p.upper p.lower)
-      (first : r ≡ cond (ltb (y0 - 200003) p.geom.upper_rows) (y0 - 200003) (y0 - 200003 - p.geom.upper_rows))
-      (all : (leb (y0 - 200003 + n) p.geom.upper_rows || leb p.geom.upper_rows (y0 - 200003)) ≡ true) where
-    in-upper : ltb (y0 - 200003) p.geom.upper_rows ≡ true → y0 - 200003 + n ≤ p.geom.upper_rows
-    in-upper t =
-        let e = y0 - 200003 in
-        let k = p.geom.upper_rows in
-        leb-true (e + n) k (or_left (leb (e + n) k) (leb k e) all (lt-leb k e (ltb-true e k t)))
-
-    pub band_fits : Rows n p.geom.stride w (r * p.geom.stride + (b - 200003)) (length l)
-    band_fits = rw (band, first) (by-test (ltb (y0 - 200003) p.geom.upper_rows) refl)
-      where
-        by-test : (t : Bool) → ltb (y0 - 200003) p.geom.upper_rows ≡ t
-            → Rows n p.geom.stride w (cond t (y0 - 200003) (y0 - 200003 - p.geom.upper_rows) * p.geom.stride + (b - 200003))
-            (length (cond t p.upper p.lower))
-        by-test true t = upper_fits (in-upper t)
-        by-test false t = lower_fits (ltb-false _ _ t)
-
-    -- what it has where the rectangle reads
-    pub band_at : (i c : ℕ) → i < n → c < w
-        → get_or l (r * p.geom.stride + (b - 200003) + i * p.geom.stride + c) 0
-        ≡ plane p (min (y0 + i - 200003) (height_of p.geom - 1)) (min (b + c - 200003) (width_of p.geom - 1))
-    band_at i c ni cw = rw (band, first) (by-test (ltb (y0 - 200003) p.geom.upper_rows) refl)
-      where
-        by-test : (t : Bool) → ltb (y0 - 200003) p.geom.upper_rows ≡ t
-            → get_or (cond t p.upper p.lower)
-            (cond t (y0 - 200003) (y0 - 200003 - p.geom.upper_rows) * p.geom.stride + (b - 200003) + i * p.geom.stride + c) 0
-            ≡ plane p (min (y0 + i - 200003) (height_of p.geom - 1)) (min (b + c - 200003) (width_of p.geom - 1))
-        by-test true t = upper_at (in-upper t) i c ni cw
-        by-test false t = lower_at (ltb-false _ _ t) i c ni cw
-
-    pub band_copy : (i c : ℕ) → i < n → c < w
-        → clipped_rows max l (r * p.geom.stride + (b - 200003)) p.geom.stride i c ≡ copy_from max p b y0 i c
-    unfolding clipped_rows clipped copy_from
-    band_copy i c ni cw = ap (λ (v : ℕ). min v max) (band_at i c ni cw)
+pub stands_copy : {p : Lent} {b y0 w n : ℕ} {band : List ℕ} {s : ℕ} (max : ℕ) → Stands p b y0 w n band s
+    → (i c : ℕ) → i < n → c < w → clipped_rows max band s p.geom.stride i c ≡ copy_from max p b y0 i c
+unfolding clipped_rows clipped copy_from
+stands_copy max part i c ni cw = ap (λ (v : ℕ). min v max) (part.is i c ni cw)
 
 -- rows of one phase over a list that has what eight taps read are the horizontal pass in steps of 16
 pub even_row : (max : ℕ) (taps : ℕ → ℕ → ℤ) (p : Lent) (l : List ℕ) (s line start y0 w n : ℕ)

@@ -1,7 +1,8 @@
 -- Internal: what the passes compute, on positions lifted by 3,200,000, which is 200,000 columns or rows. No definition that a caller reads
 -- cites this file; proofs/Bridge.antt joins it to those that do. Assumes nothing.
-use Rattle.std.specs.Prelude.{ℕ, ◌+◌, ◌-◌, ◌*◌, ◌/◌, ◌%◌, ◌≤◌, ◌<◌, min, ◌≡◌, Bool, ◌&&◌, List, leb, ℤ, get_or}
+use Rattle.std.specs.Prelude.{ℕ, ◌+◌, ◌-◌, ◌*◌, ◌/◌, ◌%◌, ◌≤◌, ◌<◌, min, ◌≡◌, Bool, ◌&&◌, ◌||◌, cond, List, leb, ℤ, get_or, length}
 use Rattle.taps.specs.Kernel.{ran, level, mean_of, onward}
+use Rattle.copies.specs.Copy.{Rows}
 use Rattle.planes.specs.Plane.{Lent, plane, width_of, height_of}
 
 -- the horizontal pass: row i is the lifted row y0 + i, held
@@ -17,6 +18,18 @@ copy_from max p b y0 i c =
 -- n lifted columns, or rows, from b on are all among m
 unfoldable pub unheld : ℕ → ℕ → ℕ → Bool
 unheld b n m = leb 200003 b && leb (b - 200003 + n) m
+
+-- n rows of w samples, from the lifted row y0 and column b on, need no holding, and one of the two bands has all of them
+unfoldable pub is_straight : Lent → ℕ → ℕ → ℕ → ℕ → Bool
+is_straight p b y0 w n =
+    unheld b w (width_of p.geom) && unheld y0 n (height_of p.geom)
+    && (leb (y0 - 200003 + n) p.geom.upper_rows || leb p.geom.upper_rows (y0 - 200003))
+
+-- a band has, from place s on, n rows of w samples: those of the lifted columns from b on and the lifted rows from y0 on
+pub record Stands (p : Lent) (b y0 w n : ℕ) (band : List ℕ) (s : ℕ) : Type 0 where
+  pub inside : Rows n p.geom.stride w s (length band)
+  pub is : (i c : ℕ) → i < n → c < w → get_or band (s + i * p.geom.stride + c) 0
+      ≡ plane p (min (y0 + i - 200003) (height_of p.geom - 1)) (min (b + c - 200003) (width_of p.geom - 1))
 
 -- the vertical pass over a room whose rows are 64 apart
 unfoldable pub down_at : ℕ → (ℕ → ℕ → ℤ) → List ℕ → ℕ → ℕ → ℕ → ℕ → ℕ
@@ -34,6 +47,10 @@ block_at max taps p sx stepx sy stepy r c =
 -- the same of a rectangle of the output, row by row
 unfoldable pub mean_with : List ℕ → ℕ → (ℕ → ℕ → ℕ) → ℕ → ℕ → ℕ
 mean_with out stride f r = mean_of out (r * stride) (f r)
+
+-- the same where a mean is asked for, else the results themselves
+abbrev pub written : Bool → List ℕ → ℕ → (ℕ → ℕ → ℕ) → ℕ → ℕ → ℕ
+written mean out stride f = cond mean (mean_with out stride f) f
 
 -- the rows of a room
 unfoldable pub room_at : List ℕ → ℕ → ℕ → ℕ

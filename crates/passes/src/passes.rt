@@ -1,446 +1,318 @@
 // Both passes over a block, on positions lifted by 3,200,000: across into the room or straight into the output, then down.
-ghost use Rattle.std.specs.Prelude.{◌≡◌, true, cond, ◌||◌, ◌+◌, ◌-◌, ◌*◌, ◌/◌, ◌%◌, ◌≤◌, ◌<◌, leb, ltb, length};
-ghost use Rattle.base.specs.Paint.{paint};
-ghost use Rattle.taps.specs.Taps.{filters, tap};
-ghost use Rattle.planes.specs.Plane.{holds, fits};
-ghost use Rattle.taps.specs.Kernel.{IsTaps};
+ghost use Rattle.std.specs.Prelude.{◌≡◌, true, ◌+◌, ◌-◌, ◌*◌, ◌/◌, ◌%◌, ◌≤◌, ◌<◌, min, cond, length, IfSome, is_some};
+ghost use Rattle.base.specs.Paint.{fill, paint};
+ghost use Rattle.taps.specs.Taps.{tap};
+ghost use Rattle.taps.specs.Kernel.{ran, mean_of, Below};
+ghost use Rattle.planes.specs.Plane.{holds, row_of};
+ghost use Rattle.planes.specs.Seen.{seen};
 ghost use Rattle.passes.specs.Lifted as Lifted;
-ghost use Rattle.passes.specs.Lifted.{across_from, copy_from, down_at, down_even, block_at, mean_with, room_at, HeldRoom, HeldLines};
-ghost use Rattle.planes.specs.Plane.{view};
+ghost use Rattle.passes.specs.Lifted.{across_from, copy_from, down_at, down_even, block_at, mean_with, written, room_at, HeldRoom, HeldLines, Stands};
 
+use crate::shapes::{Area, Axis};
 use copies::{row_held, rows_copied};
-use kernels::{gather, held, row_across, row_down, row_down_mean};
+use kernels::{gather, row_across, row_down, row_down_mean};
 use lanes::{rows_across, rows_down};
-use planes::plane_row;
-use taps::{Taps, row_averaged, subpel_table, taps_at, taps_of};
+use planes::Bands;
+use taps::{ORIGIN, Taps, held, row_averaged, taps_at};
 
-// The horizontal pass: n rows from the lifted row y0 on, w columns each.
-fn pass_across<'a>(
-    table: &[[[i16; 8]; 16]; 4],
-    p: Taps,
-    upper: &'a [u16],
-    lower: &'a [u16],
-    pw: usize,
-    ph: usize,
-    stride: usize,
-    k: usize,
-    start: usize,
-    step: usize,
+// The lifted row y, held into the plane.
+pub fn lifted_row<'a>(plane: Bands<'a>, y: usize) -> &'a [u16]
+    ensures { (result.now ≡ row_of (seen plane.entry) (min (y - 200003) (plane.entry.height - 1))) × (length result.now ≡ plane.entry.width) }
+{
+    plane.row(held(y, plane.height - 1))
+}
+
+// The n columns or rows from the lifted one b on are all among m. An Option with the place itself, handed on by ?, costs each copy 20 instructions more.
+fn unheld(b: usize, n: usize, m: usize) -> bool
+    requires { (b ≤ 400003) × (n ≤ 135) }
+    ensures { result ≡ Lifted.unheld b n m }
+{
+    if b < ORIGIN {
+        return false;
+    }
+    b - ORIGIN + n <= m
+}
+
+// Where nothing has to be held and one band has them all: that band, and the place in it from which on the n rows of w samples stand.
+#[tactic(auto, unfolding(crate::specs::Lifted::is_straight))]
+pub fn straight<'a>(
+    plane: Bands<'a>,
+    b: usize,
     y0: usize,
-    n: usize,
     w: usize,
-    max: u16,
+    n: usize,
+) -> Option<(&'a [u16], usize)>
+    requires { (b ≤ 400003) × (y0 ≤ 400003) × (w ≤ 135) × (0 < n) × (n ≤ 135) }
+    ensures stands { IfSome result (λ part. Stands (seen plane.entry) b y0 w n part.0.now part.1) }
+    ensures told { is_some result ≡ Lifted.is_straight (seen plane.entry) b y0 w n }
+{
+    if unheld(b, w, plane.width) & unheld(y0, n, plane.height) {
+        let d = b - ORIGIN;
+        let e = y0 - ORIGIN;
+        if e + n <= plane.upper_rows {
+            return Some((plane.upper, e * plane.stride + d));
+        }
+        if plane.upper_rows <= e {
+            return Some((plane.lower, (e - plane.upper_rows) * plane.stride + d));
+        }
+    }
+    None
+}
+
+// The horizontal pass: the rows from the lifted row y0 on.
+fn pass_across<'a>(
+    p: Taps,
+    plane: Bands<'a>,
+    x: Axis,
+    y0: usize,
+    area: Area,
     room: &mut [u16],
     rs: usize,
 )
-    requires table_value { table.now ≡ filters }
-    requires taps { IsTaps p }
-    requires filter_bound { (p.filter < 4) × (p.phase ≡ start % 16) × (start ≤ 6400000) × (step ≤ 32) × (0 < w) × (w ≤ 64) }
-    requires pw_nonzero { (0 < pw) × (0 < ph) × (y0 ≤ 400003) × (n ≤ 134) × (max ≤ 4095) }
-    requires lower_value { fits (view pw ph stride k upper.now lower.now) ≡ true }
-    requires room_value { holds n rs w (length room.old) ≡ true }
-    ensures { room.new ≡ paint room.old rs w n
-        (across_from max (tap p.filter) (view pw ph stride k upper.now lower.now) start step y0) }
+    requires places { (p.filter < 4) × (p.phase ≡ x.start % 16) × (y0 ≤ 400003) }
+    requires room_value { holds area.height rs area.width (length room.old) ≡ true }
+    ensures { room.new ≡ paint room.old rs area.width area.height
+        (across_from area.max (tap p.filter) (seen plane.entry) x.start x.step y0) }
 {
-    let mut i = 0;
-    while i < n {
-        let y = held(y0 + i, ph - 1);
-        let r = plane_row(upper, lower, pw, ph, stride, k, y);
-        row_across(table, p, r, pw - 1, start, step, w, max, room, i * rs);
-        i += 1;
+    for i in 0..area.height {
+        let row = lifted_row(plane, y0 + i);
+        row_across(
+            p,
+            row,
+            plane.width - 1,
+            x.start,
+            x.step,
+            area.width,
+            area.max,
+            room,
+            i * rs,
+        );
     }
 }
 
-// Rows of copies near an edge: n rows from the lifted row y0 on, w columns each from the lifted column b on.
-fn rows_held<'a>(
-    upper: &'a [u16],
-    lower: &'a [u16],
-    pw: usize,
-    ph: usize,
-    stride: usize,
-    k: usize,
-    b: usize,
-    y0: usize,
-    n: usize,
-    w: usize,
-    max: u16,
-    out: &mut [u16],
-    rs: usize,
-)
-    requires b_bound { (b ≤ 400003) × (y0 ≤ 400003) × (n ≤ 134) × (w ≤ 64) × (0 < pw) × (0 < ph) }
-    requires lower_value { fits (view pw ph stride k upper.now lower.now) ≡ true }
-    requires out_value { holds n rs w (length out.old) ≡ true }
-    ensures { out.new ≡ paint out.old rs w n
-        (copy_from max (view pw ph stride k upper.now lower.now) b y0) }
+// Rows of copies near an edge, from the lifted row y0 and the lifted column b on.
+fn rows_held<'a>(plane: Bands<'a>, b: usize, y0: usize, area: Area, out: &mut [u16], rs: usize)
+    requires places { (b ≤ 400003) × (y0 ≤ 400003) }
+    requires out_value { holds area.height rs area.width (length out.old) ≡ true }
+    ensures { out.new ≡ paint out.old rs area.width area.height
+        (copy_from area.max (seen plane.entry) b y0) }
 {
-    let mut j = 0;
-    while j < n {
-        let y = held(y0 + j, ph - 1);
-        let r = plane_row(upper, lower, pw, ph, stride, k, y);
-        row_held(r, pw - 1, b, w, max, out, j * rs);
-        j += 1;
+    for j in 0..area.height {
+        let row = lifted_row(plane, y0 + j);
+        row_held(row, plane.width - 1, b, area.width, area.max, out, j * rs);
     }
-}
-
-pub fn unheld(b: usize, n: usize, m: usize) -> bool
-    requires { (b ≤ 400003) × (n ≤ 134) }
-    ensures { result ≡ Lifted.unheld b n m }
-{
-    if b < 200003 {
-        return false;
-    }
-    b - 200003 + n <= m
-}
-
-// All of n rows from e on stand in one of the bands, of which the upper one has k.
-pub fn whole(e: usize, n: usize, k: usize) -> bool
-    requires { (e ≤ 200000) × (n ≤ 134) }
-    ensures { result ≡ (leb (e + n) k || leb k e) }
-{
-    (e + n <= k) | (k <= e)
-}
-
-pub fn band_of<'a>(upper: &'a [u16], lower: &'a [u16], first: bool) -> &'a [u16]
-    ensures { result.now ≡ cond first upper.now lower.now }
-{
-    if first {
-        return upper;
-    }
-    lower
-}
-
-pub fn row_in(e: usize, k: usize) -> usize
-    ensures { result ≡ cond (ltb e k) e (e - k) }
-{
-    if e < k {
-        return e;
-    }
-    e - k
 }
 
 // Rows of copies, straight from the band that has them all where nothing has to be held.
-fn pass_copied<'a>(
-    upper: &'a [u16],
-    lower: &'a [u16],
-    pw: usize,
-    ph: usize,
-    stride: usize,
-    k: usize,
-    b: usize,
-    y0: usize,
-    n: usize,
-    w: usize,
-    max: u16,
-    out: &mut [u16],
-    rs: usize,
-)
-    requires b_bound { (b ≤ 400003) × (y0 ≤ 400003) × (n ≤ 134) × (w ≤ 64) × (0 < pw) × (0 < ph) }
-    requires lower_value { fits (view pw ph stride k upper.now lower.now) ≡ true }
-    requires out_value { holds n rs w (length out.old) ≡ true }
-    ensures { out.new ≡ paint out.old rs w n
-        (copy_from max (view pw ph stride k upper.now lower.now) b y0) }
+fn pass_copied<'a>(plane: Bands<'a>, b: usize, y0: usize, area: Area, out: &mut [u16], rs: usize)
+    requires places { (b ≤ 400003) × (y0 ≤ 400003) }
+    requires out_value { holds area.height rs area.width (length out.old) ≡ true }
+    ensures { out.new ≡ paint out.old rs area.width area.height
+        (copy_from area.max (seen plane.entry) b y0) }
 {
-    if unheld(b, w, pw) & unheld(y0, n, ph) {
-        let d = b - 200003;
-        let e = y0 - 200003;
-        if whole(e, n, k) {
-            let l = band_of(upper, lower, e < k);
-            rows_copied(l, row_in(e, k) * stride + d, stride, w, n, max, out, rs);
-            return;
-        }
+    if let Some((band, s)) = straight(plane, b, y0, area.width, area.height) {
+        rows_copied(
+            band,
+            s,
+            plane.stride,
+            area.width,
+            area.height,
+            area.max,
+            out,
+            rs,
+        );
+        return;
     }
-    rows_held(upper, lower, pw, ph, stride, k, b, y0, n, w, max, out, rs)
+    rows_held(plane, b, y0, area, out, rs)
 }
 
 // The held samples of m lifted columns from b on, of n rows from the lifted row y0 on: lines of 71.
-pub fn gather_rows<'a>(
-    upper: &'a [u16],
-    lower: &'a [u16],
-    pw: usize,
-    ph: usize,
-    stride: usize,
-    k: usize,
-    b: usize,
-    y0: usize,
-    n: usize,
-    m: usize,
-    lines: &mut [u16],
-)
-    requires b_bound { (b ≤ 400003) × (y0 ≤ 400137) × (n ≤ 8) × (0 < m) × (m ≤ 71) × (0 < pw) × (0 < ph) × (71 * n + 8 ≤ length lines.old) }
-    requires lower_value { fits (view pw ph stride k upper.now lower.now) ≡ true }
-    ensures { HeldLines (view pw ph stride k upper.now lower.now) b y0 n m lines.new }
+pub fn gather_rows<'a>(plane: Bands<'a>, b: usize, y0: usize, n: usize, m: usize, lines: &mut [u16])
+    requires { (b ≤ 400003) × (y0 ≤ 400137) × (n ≤ 8) × (0 < m) × (m ≤ 71) × (71 * n + 8 ≤ length lines.old) }
+    ensures { HeldLines (seen plane.entry) b y0 n m lines.new }
 {
-    let mut j = 0;
-    while j < n {
-        let y = held(y0 + j, ph - 1);
-        let r = plane_row(upper, lower, pw, ph, stride, k, y);
-        gather(r, pw - 1, b, m, lines, j * 71);
-        j += 1;
+    for j in 0..n {
+        let row = lifted_row(plane, y0 + j);
+        gather(row, plane.width - 1, b, m, lines, j * 71);
     }
 }
 
 // The horizontal pass in steps of 16 near an edge: row by row, over a line of held samples.
 fn pass_gathered<'a>(
     p: Taps,
-    upper: &'a [u16],
-    lower: &'a [u16],
-    pw: usize,
-    ph: usize,
-    stride: usize,
-    k: usize,
+    plane: Bands<'a>,
     start: usize,
     y0: usize,
-    n: usize,
-    w: usize,
-    max: u16,
+    area: Area,
     room: &mut [u16],
     rs: usize,
 )
-    requires taps { IsTaps p }
-    requires filter_bound { (p.filter < 4) × (p.phase ≡ start % 16) × (start ≤ 6400000) × (0 < w) × (w ≤ 64) }
-    requires pw_nonzero { (0 < pw) × (0 < ph) × (y0 ≤ 400003) × (n ≤ 134) × (max ≤ 4095) }
-    requires lower_value { fits (view pw ph stride k upper.now lower.now) ≡ true }
-    requires room_value { holds n rs w (length room.old) ≡ true }
-    ensures { room.new ≡ paint room.old rs w n
-        (across_from max (tap p.filter) (view pw ph stride k upper.now lower.now) start 16 y0) }
+    requires places { (p.phase ≡ start % 16) × (start ≤ 6200000) × (y0 ≤ 400003) }
+    requires room_value { holds area.height rs area.width (length room.old) ≡ true }
+    ensures { room.new ≡ paint room.old rs area.width area.height
+        (across_from area.max (tap p.filter) (seen plane.entry) start 16 y0) }
 {
-    let b = start / 16;
     // Of at most 256 bytes: the compiler has C's memset write zeros to a larger one first.
-    let mut lines = [1u16; 80];
-    let mut done = 0;
-    while done < n {
-        gather_rows(
-            upper,
-            lower,
-            pw,
-            ph,
-            stride,
-            k,
-            b,
-            y0 + done,
-            1,
-            w + 7,
-            &mut lines,
-        );
-        rows_across(&lines, 0, 71, p, w, max, 1, room, done * rs, rs);
-        done += 1;
+    let mut line = [1u16; 80];
+    for j in 0..area.height {
+        gather_rows(plane, start / 16, y0 + j, 1, area.width + 7, &mut line);
+        rows_across(&line, 0, 71, p, area.width, area.max, 1, room, j * rs, rs);
     }
 }
 
 // The horizontal pass in steps of 16: all rows at once from the band that has them, where nothing has to be held.
 fn pass_even<'a>(
     p: Taps,
-    upper: &'a [u16],
-    lower: &'a [u16],
-    pw: usize,
-    ph: usize,
-    stride: usize,
-    k: usize,
+    plane: Bands<'a>,
     start: usize,
     y0: usize,
-    n: usize,
-    w: usize,
-    max: u16,
+    area: Area,
     room: &mut [u16],
     rs: usize,
 )
-    requires taps { IsTaps p }
-    requires filter_bound { (p.filter < 4) × (p.phase ≡ start % 16) × (start ≤ 6400000) × (0 < w) × (w ≤ 64) }
-    requires pw_nonzero { (0 < pw) × (0 < ph) × (y0 ≤ 400003) × (0 < n) × (n ≤ 134) × (max ≤ 4095) }
-    requires lower_value { fits (view pw ph stride k upper.now lower.now) ≡ true }
-    requires room_value { holds n rs w (length room.old) ≡ true }
-    ensures { room.new ≡ paint room.old rs w n
-        (across_from max (tap p.filter) (view pw ph stride k upper.now lower.now) start 16 y0) }
+    requires places { (p.phase ≡ start % 16) × (start ≤ 6200000) × (y0 ≤ 400003) }
+    requires room_value { holds area.height rs area.width (length room.old) ≡ true }
+    ensures { room.new ≡ paint room.old rs area.width area.height
+        (across_from area.max (tap p.filter) (seen plane.entry) start 16 y0) }
 {
-    let b = start / 16;
-    if unheld(b, w + 7, pw) & unheld(y0, n, ph) {
-        let d = b - 200003;
-        let e = y0 - 200003;
-        if e + n <= k {
-            rows_across(upper, e * stride + d, stride, p, w, max, n, room, 0, rs);
-            return;
-        }
-        if k <= e {
-            rows_across(
-                lower,
-                (e - k) * stride + d,
-                stride,
-                p,
-                w,
-                max,
-                n,
-                room,
-                0,
-                rs,
-            );
-            return;
-        }
-    }
-    pass_gathered(
-        p, upper, lower, pw, ph, stride, k, start, y0, n, w, max, room, rs,
-    )
-}
-
-// The horizontal pass, whatever the columns: whole ones in steps of 16 are copies and need no taps.
-pub fn pass_rows<'a>(
-    upper: &'a [u16],
-    lower: &'a [u16],
-    pw: usize,
-    ph: usize,
-    stride: usize,
-    k: usize,
-    start: usize,
-    step: usize,
-    y0: usize,
-    n: usize,
-    filter: usize,
-    w: usize,
-    max: u16,
-    room: &mut [u16],
-    rs: usize,
-)
-    requires filter_bound { (filter < 4) × (start ≤ 6200000) × (step ≤ 32) × (0 < w) × (w ≤ 64) × (0 < pw) × (0 < ph) × (y0 ≤ 400003) × (0 < n) × (n ≤ 134)
-        × (max ≤ 4095) }
-    requires lower_value { fits (view pw ph stride k upper.now lower.now) ≡ true }
-    requires room_value { holds n rs w (length room.old) ≡ true }
-    ensures { room.new ≡ paint room.old rs w n
-        (across_from max (tap filter) (view pw ph stride k upper.now lower.now) start step y0) }
-{
-    if (start % 16 == 0) & (step == 16) {
-        pass_copied(
-            upper,
-            lower,
-            pw,
-            ph,
-            stride,
-            k,
-            start / 16 + 3,
-            y0,
-            n,
-            w,
-            max,
+    if let Some((band, s)) = straight(plane, start / 16, y0, area.width + 7, area.height) {
+        rows_across(
+            band,
+            s,
+            plane.stride,
+            p,
+            area.width,
+            area.max,
+            area.height,
             room,
+            0,
             rs,
         );
         return;
     }
-    if step == 16 {
-        let p = taps_of(filter, start % 16);
-        pass_even(
-            p, upper, lower, pw, ph, stride, k, start, y0, n, w, max, room, rs,
-        );
+    pass_gathered(p, plane, start, y0, area, room, rs)
+}
+
+// The horizontal pass, whatever the columns: whole ones in steps of 16 are copies and need no taps.
+pub fn pass_rows<'a>(
+    plane: Bands<'a>,
+    x: Axis,
+    y0: usize,
+    filter: usize,
+    area: Area,
+    room: &mut [u16],
+    rs: usize,
+)
+    requires filter_bound { (filter < 4) × (y0 ≤ 400003) }
+    requires room_value { holds area.height rs area.width (length room.old) ≡ true }
+    ensures { room.new ≡ paint room.old rs area.width area.height
+        (across_from area.max (tap filter) (seen plane.entry) x.start x.step y0) }
+{
+    if (x.start % 16 == 0) & (x.step == 16) {
+        pass_copied(plane, x.start / 16 + 3, y0, area, room, rs);
         return;
     }
-    let table = subpel_table();
-    let p = taps_at(table, filter, start % 16);
-    pass_across(
-        table, p, upper, lower, pw, ph, stride, k, start, step, y0, n, w, max, room, rs,
-    )
+    let p = taps_at(filter, x.start % 16);
+    if x.step == 16 {
+        pass_even(p, plane, x.start, y0, area, room, rs);
+        return;
+    }
+    pass_across(p, plane, x, y0, area, room, rs)
 }
 
 // The vertical pass where the phase is one for all rows.
-fn pass_down_even(
+fn pass_down_even(p: Taps, room: &[u16], area: Area, out: &mut [u16], stride: usize)
+    requires high { (area.height ≤ 64) × (8576 ≤ length room.now) }
+    requires out_value { holds area.height stride area.width (length out.old) ≡ true }
+    requires held_room { HeldRoom area.max room.now (area.height + 7) area.width }
+    ensures { out.new ≡ paint out.old stride area.width area.height
+        (down_even area.max (tap p.filter p.phase) room.now) }
+{
+    rows_down(
+        room,
+        0,
+        p,
+        area.width,
+        area.max,
+        area.height,
+        out,
+        0,
+        stride,
+    )
+}
+
+// A row of vertical results, averaged with what stands in the output where a mean is asked for.
+fn row_written(
     p: Taps,
     room: &[u16],
+    b: usize,
     w: usize,
-    h: usize,
     max: u16,
+    mean: bool,
     out: &mut [u16],
-    stride: usize,
+    at: usize,
 )
-    requires taps { IsTaps p }
-    requires w_bound { (w ≤ 64) × (0 < h) × (h ≤ 64) × (8576 ≤ length room.now) × (max ≤ 4095) }
-    requires out_value { holds h stride w (length out.old) ≡ true }
-    requires held_room { HeldRoom max room.now (h + 7) w }
-    ensures { out.new ≡ paint out.old stride w h (down_even max (tap p.filter p.phase) room.now) }
+    requires bounds { (p.filter < 4) × (w ≤ 64) × (b + w + 448 ≤ length room.now) × (at + w ≤ length out.old) × (max ≤ 4095) }
+    requires below { Below max room.now b w }
+    ensures { out.new ≡ fill out.old at w (cond mean
+        (mean_of out.old at (ran max (tap p.filter p.phase) room.now 64 b))
+        (ran max (tap p.filter p.phase) room.now 64 b)) }
 {
-    rows_down(room, 0, p, w, max, h, out, 0, stride)
+    if mean {
+        row_down_mean(p, room, b, w, max, out, at);
+        return;
+    }
+    row_down(p, room, b, w, max, out, at)
 }
 
 // The vertical pass where the phase changes from row to row.
 fn pass_down_stepped(
-    table: &[[[i16; 8]; 16]; 4],
     filter: usize,
     room: &[u16],
-    start: usize,
-    step: usize,
-    w: usize,
-    h: usize,
-    max: u16,
+    y: Axis,
+    area: Area,
+    mean: bool,
     out: &mut [u16],
     stride: usize,
 )
-    requires table_value { table.now ≡ filters }
-    requires filter_bound { (filter < 4) × (start ≤ 6400000) × (step ≤ 32) × (w ≤ 64) × (h ≤ 64) × (8576 ≤ length room.now) × (max ≤ 4095) }
-    requires out_value { holds h stride w (length out.old) ≡ true }
-    requires held_room { HeldRoom max room.now ((start % 16 + step * (h - 1)) / 16 + 8) w }
-    ensures { out.new ≡ paint out.old stride w h (down_at max (tap filter) room.now start step) }
+    requires bounds { (filter < 4) × (area.height ≤ 64) × (8576 ≤ length room.now) }
+    requires apart { mean ≡ true → area.width ≤ stride }
+    requires out_value { holds area.height stride area.width (length out.old) ≡ true }
+    requires held_room { HeldRoom area.max room.now ((y.start % 16 + y.step * (area.height - 1)) / 16 + 8) area.width }
+    ensures { out.new ≡ paint out.old stride area.width area.height
+        (written mean out.old stride (down_at area.max (tap filter) room.now y.start y.step)) }
 {
-    let mut r = 0;
-    while r < h {
-        let q = start + step * r;
-        let b = q / 16 - start / 16;
-        let p = taps_at(table, filter, q % 16);
-        row_down(p, room, b * 64, w, max, out, r * stride);
-        r += 1;
+    for r in 0..area.height {
+        let q = y.start + y.step * r;
+        let b = q / 16 - y.start / 16;
+        let p = taps_at(filter, q % 16);
+        row_written(p, room, b * 64, area.width, area.max, mean, out, r * stride);
     }
 }
 
-// The vertical pass: h rows of the output.
+// The vertical pass: the rows of the output, averaged with what stands there where a mean is asked for.
 fn pass_down(
     filter: usize,
     room: &[u16],
-    start: usize,
-    step: usize,
-    w: usize,
-    h: usize,
-    max: u16,
+    y: Axis,
+    area: Area,
+    mean: bool,
     out: &mut [u16],
     stride: usize,
 )
-    requires filter_bound { (filter < 4) × (start ≤ 6400000) × (step ≤ 32) × (w ≤ 64) × (0 < h) × (h ≤ 64) × (8576 ≤ length room.now) × (max ≤ 4095) }
-    requires out_value { holds h stride w (length out.old) ≡ true }
-    requires held_room { HeldRoom max room.now ((start % 16 + step * (h - 1)) / 16 + 8) w }
-    ensures { out.new ≡ paint out.old stride w h (down_at max (tap filter) room.now start step) }
+    requires bounds { (filter < 4) × (area.height ≤ 64) × (8576 ≤ length room.now) }
+    requires apart { mean ≡ true → area.width ≤ stride }
+    requires out_value { holds area.height stride area.width (length out.old) ≡ true }
+    requires held_room { HeldRoom area.max room.now ((y.start % 16 + y.step * (area.height - 1)) / 16 + 8) area.width }
+    ensures { out.new ≡ paint out.old stride area.width area.height
+        (written mean out.old stride (down_at area.max (tap filter) room.now y.start y.step)) }
 {
-    if step == 16 {
-        let p = taps_of(filter, start % 16);
-        pass_down_even(p, room, w, h, max, out, stride);
+    if !mean & (y.step == 16) {
+        let p = taps_at(filter, y.start % 16);
+        pass_down_even(p, room, area, out, stride);
         return;
     }
-    let table = subpel_table();
-    pass_down_stepped(table, filter, room, start, step, w, h, max, out, stride)
-}
-
-// The vertical pass, averaged into the output.
-fn pass_down_mean(
-    table: &[[[i16; 8]; 16]; 4],
-    filter: usize,
-    room: &[u16],
-    start: usize,
-    step: usize,
-    w: usize,
-    h: usize,
-    max: u16,
-    out: &mut [u16],
-    stride: usize,
-)
-    requires table_value { table.now ≡ filters }
-    requires filter_bound { (filter < 4) × (start ≤ 6400000) × (step ≤ 32) × (w ≤ 64) × (h ≤ 64) × (8576 ≤ length room.now) × (w ≤ stride)
-        × (max ≤ 4095) }
-    requires out_value { holds h stride w (length out.old) ≡ true }
-    requires held_room { HeldRoom max room.now ((start % 16 + step * (h - 1)) / 16 + 8) w }
-    ensures { out.new ≡ paint out.old stride w h
-        (mean_with out.old stride (down_at max (tap filter) room.now start step)) }
-{
-    let mut r = 0;
-    while r < h {
-        let q = start + step * r;
-        let b = q / 16 - start / 16;
-        let p = taps_at(table, filter, q % 16);
-        row_down_mean(p, room, b * 64, w, max, out, r * stride);
-        r += 1;
-    }
+    pass_down_stepped(filter, room, y, area, mean, out, stride)
 }
 
 // The first h rows of the room, averaged into the output.
@@ -449,150 +321,43 @@ pub fn rows_averaged(room: &[u16], w: usize, h: usize, out: &mut [u16], stride: 
     requires out_value { holds h stride w (length out.old) ≡ true }
     ensures { out.new ≡ paint out.old stride w h (mean_with out.old stride (room_at room.now)) }
 {
-    let mut r = 0;
-    while r < h {
+    for r in 0..h {
         row_averaged(room, r * 64, w, out, r * stride);
-        r += 1;
     }
 }
 
-// A block from one reference. Whole rows in steps of 16 need no vertical pass.
+// A block from one reference, averaged with what stands in the output where a mean is asked for. Whole rows in steps of 16 need no vertical pass.
 pub fn block<'a>(
-    upper: &'a [u16],
-    lower: &'a [u16],
-    pw: usize,
-    ph: usize,
-    stride: usize,
-    k: usize,
-    sx: usize,
-    stepx: usize,
-    sy: usize,
-    stepy: usize,
+    plane: Bands<'a>,
+    x: Axis,
+    y: Axis,
     filter: usize,
-    w: usize,
-    h: usize,
-    max: u16,
+    area: Area,
+    mean: bool,
     room: &mut [u16],
     out: &mut [u16],
-    ostride: usize,
-)
-    requires filter_bound { (filter < 4) × (sx ≤ 6200000) × (stepx ≤ 32) × (sy ≤ 6200000) × (stepy ≤ 32) × (0 < w) × (w ≤ 64) × (0 < h) × (h ≤ 64) }
-    requires pw_nonzero { (0 < pw) × (0 < ph) × (8576 ≤ length room.old) }
-    requires lower_value { fits (view pw ph stride k upper.now lower.now) ≡ true }
-    requires out_value { holds h ostride w (length out.old) ≡ true }
-    requires max_bound { max ≤ 4095 }
-    ensures { out.new ≡ paint out.old ostride w h
-        (block_at max (tap filter) (view pw ph stride k upper.now lower.now) sx stepx sy stepy) }
-{
-    if (sy % 16 == 0) & (stepy == 16) {
-        pass_rows(
-            upper,
-            lower,
-            pw,
-            ph,
-            stride,
-            k,
-            sx,
-            stepx,
-            sy / 16 + 3,
-            h,
-            filter,
-            w,
-            max,
-            out,
-            ostride,
-        );
-        return;
-    }
-    let n = (sy % 16 + stepy * (h - 1)) / 16 + 8;
-    pass_rows(
-        upper,
-        lower,
-        pw,
-        ph,
-        stride,
-        k,
-        sx,
-        stepx,
-        sy / 16,
-        n,
-        filter,
-        w,
-        max,
-        room,
-        64,
-    );
-    pass_down(filter, room, sy, stepy, w, h, max, out, ostride)
-}
-
-// The same, averaged with what stands in the output.
-pub fn block_mean<'a>(
-    upper: &'a [u16],
-    lower: &'a [u16],
-    pw: usize,
-    ph: usize,
     stride: usize,
-    k: usize,
-    sx: usize,
-    stepx: usize,
-    sy: usize,
-    stepy: usize,
-    filter: usize,
-    w: usize,
-    h: usize,
-    max: u16,
-    room: &mut [u16],
-    out: &mut [u16],
-    ostride: usize,
 )
-    requires filter_bound { (filter < 4) × (sx ≤ 6200000) × (stepx ≤ 32) × (sy ≤ 6200000) × (stepy ≤ 32) × (0 < w) × (w ≤ 64) × (0 < h) × (h ≤ 64) }
-    requires pw_nonzero { (0 < pw) × (0 < ph) × (8576 ≤ length room.old) × (w ≤ ostride) }
-    requires lower_value { fits (view pw ph stride k upper.now lower.now) ≡ true }
-    requires out_value { holds h ostride w (length out.old) ≡ true }
-    requires max_bound { max ≤ 4095 }
-    ensures { out.new ≡ paint out.old ostride w h
-        (mean_with out.old ostride
-        (block_at max (tap filter) (view pw ph stride k upper.now lower.now) sx stepx sy stepy)) }
+    requires bounds { (filter < 4) × (area.height ≤ 64) × (8576 ≤ length room.old) }
+    requires apart { mean ≡ true → area.width ≤ stride }
+    requires out_value { holds area.height stride area.width (length out.old) ≡ true }
+    ensures { out.new ≡ paint out.old stride area.width area.height (written mean out.old stride
+        (block_at area.max (tap filter) (seen plane.entry) x.start x.step y.start y.step)) }
 {
-    if (sy % 16 == 0) & (stepy == 16) {
-        pass_rows(
-            upper,
-            lower,
-            pw,
-            ph,
-            stride,
-            k,
-            sx,
-            stepx,
-            sy / 16 + 3,
-            h,
-            filter,
-            w,
-            max,
-            room,
-            64,
-        );
-        rows_averaged(room, w, h, out, ostride);
+    if (y.start % 16 == 0) & (y.step == 16) {
+        if mean {
+            pass_rows(plane, x, y.start / 16 + 3, filter, area, room, 64);
+            rows_averaged(room, area.width, area.height, out, stride);
+            return;
+        }
+        pass_rows(plane, x, y.start / 16 + 3, filter, area, out, stride);
         return;
     }
-    let n = (sy % 16 + stepy * (h - 1)) / 16 + 8;
-    pass_rows(
-        upper,
-        lower,
-        pw,
-        ph,
-        stride,
-        k,
-        sx,
-        stepx,
-        sy / 16,
-        n,
-        filter,
-        w,
-        max,
-        room,
-        64,
-    );
-    let table = subpel_table();
-    pass_down_mean(table, filter, room, sy, stepy, w, h, max, out, ostride)
+    let rows = Area {
+        width: area.width,
+        height: (y.start % 16 + y.step * (area.height - 1)) / 16 + 8,
+        max: area.max,
+    };
+    pass_rows(plane, x, y.start / 16, filter, rows, room, 64);
+    pass_down(filter, room, y, area, mean, out, stride)
 }

@@ -151,17 +151,18 @@ pub fn places_of(size: usize) -> [[i8; 2]; 8]
 }
 
 pub fn step_of(near: [[i8; 2]; 8], k: usize, part: usize) -> i32
-    requires { (k < 8) × (part < 2) }
+    requires place { k < 8 }
+    requires part { part < 2 }
     ensures { result ≡ get_or (get_or near k []) part (pos 0) }
 {
-    near[k][part] as i32
+    i32::from(near[k][part])
 }
 
 pub fn counter_of(mode: u8) -> usize
     ensures { Counted mode result }
 {
     if mode < 14 {
-        MODE_2_COUNTER[mode as usize] as usize
+        usize::from(MODE_2_COUNTER[usize::from(mode)])
     } else {
         0
     }

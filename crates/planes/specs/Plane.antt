@@ -1,9 +1,10 @@
 -- A plane lent in two bands: document 01, 'Lent tables'. Assumes nothing.
-use Rattle.std.specs.Prelude.{ℕ, ◌+◌, ◌-◌, ◌*◌, ◌≡◌, Bool, true, ◌&&◌, cond, List, [], ◌∷◌, leb, ltb, eqb, ℤ, pos, length, get_or, take, drop}
+use Rattle.std.specs.Prelude.{ℕ, ◌+◌, ◌-◌, ◌*◌, ◌≡◌, Bool, true, ◌&&◌, cond, List, [], ◌∷◌, leb, ltb, eqb, ℤ, pos, length, get_or, take, drop, Result, Ok, Err}
 use Rattle.std.specs.Borrow.{Bor}
 use Rattle.base.specs.Answer.{Row, row, answer, SIZE, START, SHORT}
 use Rattle.base.specs.Number.{between, within}
 use Rattle.base.specs.Position.{to_n}
+use Rattle.base.specs.declared.refusal.Refusal.{Refusal}
 use Rattle.planes.specs.declared.plane.PlaneGeom.{PlaneGeom}
 
 -- a plane as it is lent: its numbers, "The upper band holds rows 0..k-1, the lower the rest, with one stride for both"
@@ -83,3 +84,8 @@ pub record ReadOutcome (g : PlaneGeom) (upper lower : Bor (List ℕ)) (y n : ℕ
   pub number : n ≡ answer (read_rows (lent g upper.now lower.now) y)
   pub row : r.now ≡ cond (eqb (answer (read_rows (lent g upper.now lower.now) y)) 0) (row_of (lent g upper.now lower.now) y) []
   pub place : r.ref_ptr ≡ cond (eqb (answer (read_rows (lent g upper.now lower.now) y)) 0) (row_at g upper lower y) (sample_at upper 0)
+
+-- the part that stands for a row read's answer: the row, or the empty part of the upper band
+abbrev pub row_or : Bor (List ℕ) → Result (Bor (List ℕ)) Refusal → Bor (List ℕ)
+row_or upper (Ok r) = r
+row_or upper (Err e) = record upper { now = [] }

@@ -3,9 +3,10 @@ ghost use Rattle.std.specs.Prelude.{◌≡◌, true, ◌&&◌, ◌-◌, ◌*◌,
 ghost use Rattle.base.specs.Answer.{answer};
 ghost use Rattle.base.specs.Number as Number;
 ghost use Rattle.planes.specs.Plane as Plane;
-ghost use Rattle.planes.specs.Plane.{geom as sizes, lent, view, read_rows, row_of, row_at, sample_at, ReadOutcome};
+ghost use Rattle.planes.specs.Plane.{geom as sizes, lent, view, read_rows, row_of, row_at, sample_at, row_or, ReadOutcome};
+ghost use Rattle.base.specs.Refused.{told};
 
-use base::{SHORT, SIZE, START, between, natural, unless, within};
+use base::{Refusal, between, natural, within};
 
 // Its size in samples, the distance between rows, and how many rows the upper band has; the lower one has the rest.
 #[repr(C)]
@@ -18,56 +19,39 @@ pub struct PlaneGeom {
 }
 
 // "A band of k rows needs (k-1) x stride + W samples, or none if k = 0"
+#[tactic(auto, unfolding(crate::specs::Plane::holds))]
 pub fn holds(rows: usize, stride: usize, w: usize, len: usize) -> bool
     requires { (rows ≤ 2147483648) × (stride ≤ 131072) × (w ≤ 131072) }
     ensures { result ≡ Plane.holds rows stride w len }
 {
-    if 0 < rows {
-        (rows - 1) * stride + w <= len
-    } else {
-        true
-    }
+    rows == 0 || (rows - 1) * stride + w <= len
 }
 
-// Both bands, once the stride and the upper band's rows are known to be in range.
-fn bands_fit(w: usize, h: usize, stride: usize, k: usize, upper: usize, lower: usize) -> bool
-    requires { h ≤ 2147483648 }
-    ensures { result ≡ (Number.within w 131072 stride && leb k h && Plane.holds k stride w upper && Plane.holds (h - k) stride w lower) }
-{
-    if within(w, 131072, stride) & (k <= h) {
-        holds(k, stride, w, upper) & holds(h - k, stride, w, lower)
-    } else {
-        false
-    }
-}
-
+#[tactic(auto, unfolding(crate::specs::Plane::sized))]
 pub fn sized(geom: PlaneGeom) -> bool
     ensures { result ≡ Plane.sized geom }
 {
     between(1, 65536, geom.width) & between(1, 65536, geom.height)
 }
 
+#[tactic(auto, using(base::proofs::Tests::within_both, base::proofs::Casts::small_nat), unfolding(crate::specs::Plane::fits))]
 pub fn fits<'a>(upper: &'a [u16], lower: &'a [u16], geom: PlaneGeom) -> bool
     ensures { result ≡ Plane.fits (lent geom upper.now lower.now) }
 {
-    bands_fit(
-        natural(geom.width),
-        natural(geom.height),
-        geom.stride,
-        geom.upper_rows,
-        upper.len(),
-        lower.len(),
-    )
+    let w = natural(geom.width);
+    let h = natural(geom.height);
+    let k = geom.upper_rows;
+    (within(w, 131072, geom.stride) & (k <= h))
+        && (holds(k, geom.stride, w, upper.len()) & holds(h - k, geom.stride, w, lower.len()))
 }
 
 fn band_row<'a>(band: &'a [u16], rows: usize, stride: usize, w: usize, y: usize) -> &'a [u16]
-    requires band_value { Plane.holds rows stride w (length band.now) ≡ true }
-    requires y_lt_rows { y < rows }
+    requires held { Plane.holds rows stride w (length band.now) ≡ true }
+    requires inside { y < rows }
     ensures { (result.now ≡ take w (drop (y * stride) band.now)) × (length result.now ≡ w) × (result.ref_ptr ≡ sample_at band.entry (y * stride)) }
 {
-    let a = y * stride;
-    let e = a + w;
-    &band[a..e]
+    let first = y * stride;
+    &band[first..first + w]
 }
 
 // Row y, a part of the band that holds it.
@@ -91,43 +75,45 @@ pub fn plane_row<'a>(
     band_row(lower, h - k, stride, w, y - k)
 }
 
-fn read_refusal<'a>(upper: &'a [u16], lower: &'a [u16], geom: PlaneGeom, y: usize) -> u32
-    ensures { result ≡ answer (read_rows (lent geom upper.now lower.now) y) }
+// Whether row y can be read, in the order of the table's rows.
+#[tactic(auto, unfolding(base::specs::Answer::unless))]
+fn readable<'a>(
+    upper: &'a [u16],
+    lower: &'a [u16],
+    geom: PlaneGeom,
+    y: usize,
+) -> Result<(), Refusal>
+    ensures { told result ≡ answer (read_rows (lent geom upper.now lower.now) y) }
 {
-    unless(
-        SIZE,
-        sized(geom),
-        unless(
-            START,
-            y < natural(geom.height),
-            unless(SHORT, fits(upper, lower, geom), 0),
-        ),
-    )
+    Refusal::Size.unless(sized(geom))?;
+    Refusal::Start.unless(y < natural(geom.height))?;
+    Refusal::Short.unless(fits(upper, lower, geom))
 }
 
-// A row of the plane, not a copy; the answer's number goes into number. Refused: an empty part of the upper band.
+// A row of the plane, not a copy.
 pub fn row_read<'a>(
     upper: &'a [u16],
     lower: &'a [u16],
     geom: PlaneGeom,
     y: usize,
-    number: &mut u32,
-) -> &'a [u16]
-    ensures { ReadOutcome geom upper.entry lower.entry y number.new result }
+) -> Result<&'a [u16], Refusal>
+    ensures { ReadOutcome geom upper.entry lower.entry y (told result) (row_or upper.entry result) }
 {
-    let n = read_refusal(upper, lower, geom, y);
-    *number = n;
-    if n == 0 {
-        return plane_row(
-            upper,
-            lower,
-            natural(geom.width),
-            natural(geom.height),
-            geom.stride,
-            geom.upper_rows,
-            y,
-        );
-    }
-    let z = 0;
-    &upper[z..z]
+    readable(upper, lower, geom, y)?;
+    Ok(plane_row(
+        upper,
+        lower,
+        natural(geom.width),
+        natural(geom.height),
+        geom.stride,
+        geom.upper_rows,
+        y,
+    ))
+}
+
+// The same for who wants a part of the bands in any case: where the row is refused, an empty part of the upper band.
+pub fn row_or_empty<'a>(upper: &'a [u16], lower: &'a [u16], geom: PlaneGeom, y: usize) -> &'a [u16]
+    ensures { ReadOutcome geom upper.entry lower.entry y (answer (read_rows (lent geom upper.now lower.now) y)) result }
+{
+    row_read(upper, lower, geom, y).unwrap_or(&upper[..0])
 }

@@ -11,7 +11,11 @@ use borrow.Rule.Slice.PartMut.{put_mid, Post-is}
 use lib.Dec.{eqb}
 use lib.Seq.{drop-length}
 use lib.ListN.{length, take, drop, take-append-drop}
+use Rattle.std.specs.Prelude.{Ok, Err}
 use Rattle.base.specs.Answer.{unless}
+use Rattle.base.specs.Refused.{number}
+use Rattle.base.specs.declared.refusal.Refusal.{Refusal}
+use Rattle.base.proofs.Numbered.{not_accepted}
 use Rattle.base.specs.Number.{within}
 use Rattle.base.specs.Paint.{fill, paint, on_part}
 use Rattle.base.specs.Position.{to_n}
@@ -21,12 +25,15 @@ use Rattle.vectors.specs.Scale.{placed}
 use Rattle.scaling.proofs.Tested.{placed_small}
 use Rattle.planes.specs.Plane.{sized, holds}
 use Rattle.samples.specs.Call as Call
-use Rattle.samples.specs.Call.{Call, call, ref, also, starts, out_fits, value}
-use Rattle.blocks.specs.declared.block.Stepping.{Stepping}
+use Rattle.samples.specs.Call.{Ref, Call, call, ref, also, starts, out_fits, value}
+use Rattle.base.specs.declared.units.Stepping.{Stepping}
 use Rattle.samples.proofs.Reached.{blend_same}
 use Rattle.judgement.proofs.Joined.{ref_sized}
-use Rattle.judgement.proofs.Accepted.{Accepted, accepted, both_true, given, starts_taken, look_one, look-two}
-use Rattle.prediction.specs.Predict.{Whole, stepping_of, plane_of, shape_of, call_of, dest_fits, first, number_of, painted, after}
+use Rattle.blocks.specs.declared.block.BlockShape.{BlockShape}
+use Rattle.judgement.specs.Chain.{Judgement}
+use Rattle.judgement.specs.declared.judging.Judged.{Judged}
+use Rattle.judgement.proofs.Accepted.{Accepted, accepted, both_true, given, starts_taken, look_one, look-two, told_one, told_two}
+use Rattle.prediction.specs.Predict.{Whole, stepping_of, plane_of, shape_of, call_of, dest_fits, first, number_of, painted, after, Outcome}
 use Rattle.prediction.specs.Chain.{Ready, paint_from}
 
 -- ---- the block prediction below
@@ -191,3 +198,35 @@ pub put_rest : (i : ℕ) (out new : List ℕ) → i ≤ length out → put_mid i
 put_rest i out new h =
     ap (λ (l : List ℕ). take i out ++ (new ++ l)) (Post-is i (length out) out h ∙ drop-length out)
     ∙ ap (λ (l : List ℕ). take i out ++ l) (append-nil new)
+
+-- ---- a call, by what it is told
+
+pub refused : (a : Whole) (out room : List ℕ) (t : Judged) (r : Refusal) → Judgement a (length out) (length room) t → t.answer ≡ Err r
+    → Outcome a out room (number r) out room
+refused a out room t r j e =
+    let n : number r ≡ number_of a (length out) (length room) = rw e at j.number in
+    record { number = n; output = sym (after_refused a out _ (λ z. not_accepted r (n ∙ z))); kept = λ d. refl }
+
+module _ (a : Whole) (out room : List ℕ) (t : Judged) (j : Judgement a (length out) (length room) t) (e : t.answer ≡ Ok tt) where
+  pub told_zero : number_of a (length out) (length room) ≡ 0
+  told_zero = sym (rw e at j.number)
+
+  told_second : a.args.average ≡ true → t.from2 ≡ stepping_of a true a.two
+  told_second = told_two a _ _ t j told_zero
+
+  -- the call of the block prediction below
+  module _ (b : BlockShape) (p q : Ref) (i : ℕ) (shape : b ≡ shape_of a) (one : p ≡ ref (plane_of a a.one) t.from)
+      (two : q ≡ ref (plane_of a a.two) t.from2) (at : i ≡ first a) where
+    called : call b p q a.dest.width ≡ call_with a t.from2
+    called = rw (shape, one, two, told_one a _ _ t j told_zero)
+
+    pub ready_call : Ready (call b p q a.dest.width) i (length out) (length room)
+    ready_call = rw (called, at) (ready a _ _ t.from2 told_zero told_second)
+
+    pub accepted_call : (out' room' : List ℕ) → out' ≡ paint_from i (call b p q a.dest.width) out → Outcome a out room 0 out' room'
+    accepted_call out' room' o =
+        record {
+          number = sym told_zero;
+          output = (rw (called, at) at o) ∙ painted_is a t.from2 out told_second ∙ sym (after_taken a out _ told_zero);
+          kept = λ d. absurd (d told_zero);
+        }

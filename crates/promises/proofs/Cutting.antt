@@ -19,7 +19,7 @@ use Rattle.samples.specs.Reach.{Piece}
 use Rattle.blocks.specs.Passed.{Legal}
 use Rattle.blocks.proofs.Facts.{legal_says}
 use Rattle.samples.proofs.Accepted.{accepted, after_taken}
-use Rattle.planes.proofs.Bands.{holds_row}
+use Rattle.planes.proofs.Fitting.{holds_row}
 use Rattle.samples.proofs.Reached.{rectangle}
 use Rattle.blocks.specs.declared.block.BlockShape.{BlockShape}
 use Rattle.promises.specs.Cut.{Part, Onward, Within, Each, has, count, Cover, Tiling, first, Made, done, next}

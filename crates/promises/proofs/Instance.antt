@@ -19,7 +19,7 @@ use Rattle.planes.specs.Plane.{Lent, lent, plane, holds, sized, fits}
 use Rattle.samples.specs.Call.{Call, call, ref, from_ref, value, kind, starts, out_fits, number_of, Outcome}
 use Rattle.samples.specs.Reach.{SamePlane}
 use Rattle.samples.proofs.Accepted.{after_taken}
-use Rattle.blocks.specs.declared.block.Stepping.{Stepping}
+use Rattle.base.specs.declared.units.Stepping.{Stepping}
 use Rattle.promises.specs.Cut.{Part, part, Within, has, count, Tiling, Made, done, next}
 use Rattle.promises.proofs.Cutting.{cutting_once}
 

@@ -11,7 +11,7 @@ use Rattle.base.specs.Number.{between, within}
 use Rattle.base.specs.Position.{hold, along}
 use Rattle.base.specs.Vector.{sixteenth}
 use Rattle.planes.specs.Plane.{Lent, lent, plane, holds, sized, fits}
-use Rattle.blocks.specs.declared.block.Stepping.{Stepping}
+use Rattle.base.specs.declared.units.Stepping.{Stepping}
 use Rattle.reach.specs.Rectangle.{last_read, readable}
 use Rattle.samples.specs.Call.{Call, call, ref, kind, starts, out_fits, number_of, Outcome}
 use Rattle.promises.specs.Unread.{Alike, AlikeCalls, Agreeing, reach_of}

@@ -4,7 +4,6 @@ use Rattle.std.specs.Prelude.{ℕ, ◌≡◌, true, false, List, [], ◌∷◌, 
 use mathlib.Core.List as L
 use Rattle.base.specs.Example.{Example, example}
 use Rattle.base.specs.Vector.{sixteenth, plane_mv}
-use Rattle.base.specs.declared.units.Eighth.{Eighth}
 use Rattle.base.specs.declared.units.Mv.{Mv}
 use Rattle.records.specs.Tables.{tables}
 use Rattle.candidates.specs.Search.{context}
@@ -73,8 +72,7 @@ parts v = v.row.0 ∷ v.col.0 ∷ []
 -- "Sub-block 3, block vectors and search pair all equal to c: c and zero.", for every c
 unfoldable pub sub_three : Mv → Example
 sub_three c =
-    let one : List Eighth = c.row ∷ c.col ∷ [] in
-    let list = sub_list 3 (one ∷ one ∷ one ∷ one ∷ []) c c in
+    let list = sub_list 3 (c ∷ c ∷ c ∷ c ∷ []) c c in
     example (parts list.first ++ parts list.second) (parts c ++ (pos 0 ∷ pos 0 ∷ []))
 
 -- the scaling of a zero vector at luma column x, for a square reference and a square frame

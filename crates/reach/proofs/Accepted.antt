@@ -1,5 +1,6 @@
 -- What each row of the table says of an accepted call, and what a call gives whose tests pass. Assumes nothing.
-use mathlib.Core.Path.{◌≡◌}
+use mathlib.Core.Path.{◌≡◌, sym}
+use Rattle.std.proofs.Common.{Err}
 use mathlib.Core.Bool.{true, ◌&&◌}
 use Prim.Native.Nat.{ℕ, ◌≤◌}
 use lib.IntN.{ℤ, pos}
@@ -9,9 +10,12 @@ use Rattle.base.specs.Position.{to_n}
 use Rattle.base.proofs.Answered.{unless_zero}
 use Rattle.base.proofs.Tests.{and_both, within_both}
 use Rattle.blocks.specs.Block.{starts}
-use Rattle.blocks.specs.declared.block.Stepping.{Stepping}
+use Rattle.base.specs.declared.units.Stepping.{Stepping}
 use Rattle.blocks.proofs.Facts.{from_one}
-use Rattle.reach.specs.Rectangle.{reach_rows, readable, block_reach}
+use Rattle.base.specs.Refused.{number}
+use Rattle.base.specs.declared.refusal.Refusal.{Refusal}
+use Rattle.base.proofs.Numbered.{not_zero}
+use Rattle.reach.specs.Rectangle.{reach_rows, readable, reached, block_reach}
 
 pub record Accepted (n m : ℕ) (x y : ℤ) (s : Stepping) : Type 0 where
   pub w : (1 ≤ n) × (n ≤ 64)
@@ -41,3 +45,9 @@ pub told : (w h : ℕ) (width height : ℤ) (s : Stepping) → (within 1 64 w &&
     → block_reach w h width height s ≡ readable w h (to_n width) (to_n height) s
 unfolding block_reach unless
 told w h width height s block size from = rw (block, size, from)
+
+-- and a call that is refused by a row gives that row's number
+pub refused : (w h : ℕ) (width height : ℤ) (s : Stepping) (r : Refusal) → number r ≡ answer (reach_rows w h width height s)
+    → reached (Err r) ≡ block_reach w h width height s
+unfolding block_reach
+refused w h width height s r e = rw (sym e, not_zero r)

@@ -4,7 +4,7 @@ use Prim.Native.Nat.{ℕ}
 use lib.IntN.{ℤ}
 use Rattle.base.specs.Answer.{Lowest}
 use Rattle.base.proofs.Answered.{lowest}
-use Rattle.blocks.specs.declared.block.Stepping.{Stepping}
+use Rattle.base.specs.declared.units.Stepping.{Stepping}
 use Rattle.reach.specs.Rectangle.{reach_rows, block_reach}
 use Rattle.reach.specs.declared.reaching.Reach.{Reach}
 

@@ -8,7 +8,7 @@ use lib.IntN.{ℤ, pos, negsuc, ◌+ℤ◌, ◌-ℤ◌}
 use lib.Signed.{shr_z}
 use Rattle.base.specs.Position.{to_n, floor16, hold, along, place}
 use Rattle.base.proofs.Lift.{Diff, Lifted, lifted, diff_pos, diff_neg, diff_add, diff_to_n, diff_along, place-lifted}
-use Rattle.blocks.specs.declared.block.Stepping.{Stepping}
+use Rattle.base.specs.declared.units.Stepping.{Stepping}
 use Rattle.reach.specs.Rectangle.{first_read, last_read, In, readable}
 
 -- the machine's shift is the document's floor

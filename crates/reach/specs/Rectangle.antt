@@ -1,12 +1,15 @@
 -- How far a block can reach: the rectangle of a plane that its positions can read, and the call that tells it. Document 02, Req 11.
 -- Assumes nothing.
-use Rattle.std.specs.Prelude.{ℕ, ◌-◌, ◌≤◌, ◌&&◌, cond, List, [], ◌∷◌, eqb, ℤ, pos, ◌+ℤ◌, ◌-ℤ◌}
+use Rattle.std.specs.Prelude.{ℕ, ◌-◌, ◌≤◌, ◌&&◌, cond, List, [], ◌∷◌, eqb, ℤ, pos, ◌+ℤ◌, ◌-ℤ◌, Result, Ok, Err}
 use Rattle.base.specs.Answer.{Row, row, answer, BLOCK, SIZE, START}
 use Rattle.base.specs.Number.{between, within}
+use Rattle.base.specs.Refused.{number}
+use Rattle.base.specs.declared.refusal.Refusal.{Refusal}
 use Rattle.base.specs.Position.{to_n, floor16, hold, along}
 use Rattle.blocks.specs.Block.{starts}
-use Rattle.blocks.specs.declared.block.Stepping.{Stepping}
+use Rattle.base.specs.declared.units.Stepping.{Stepping}
 use Rattle.reach.specs.declared.reaching.Reach.{Reach}
+use Rattle.reach.specs.declared.reaching.Span.{Span}
 
 -- the first column, or row: "floor(start_x / 16) - 3", held into 0..last
 unfoldable pub first_read : ℕ → ℤ → ℕ
@@ -37,6 +40,11 @@ pub record In (r : Reach) (v u : ℕ) : Type 0 where
 -- no rectangle
 abbrev pub nothing : ℕ → Reach
 nothing n = record { answer = n; first_col = 0; last_col = 0; first_row = 0; last_row = 0 }
+
+-- the answer of a call as it crosses to C
+abbrev pub reached : Result Span Refusal → Reach
+reached (Ok s) = record { answer = 0; first_col = s.first_col; last_col = s.last_col; first_row = s.first_row; last_row = s.last_row }
+reached (Err r) = nothing (number r)
 
 -- "with refusals 1, 5, 6 and nothing else": of document 01's rows 1 "w or h not 1..64", 5 "reference plane width or height not 1..65536", and 6, which
 -- `starts` quotes

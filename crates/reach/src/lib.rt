@@ -3,4 +3,4 @@
 
 mod reaching;
 
-pub use reaching::{Reach, block_reach, readable, starts};
+pub use reaching::{Reach, Span, block_reach, readable, starts};

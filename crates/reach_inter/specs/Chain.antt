@@ -3,11 +3,10 @@
 use Rattle.std.specs.Prelude.{ℕ, ◌&&◌}
 use Rattle.base.specs.Answer.{unless, BLOCK, GRID, SIZE, START, VECTOR}
 use Rattle.base.specs.Number.{within}
-use Rattle.judgement.specs.Chain.{other_than}
+use Rattle.judgement.specs.Chain.{Lead, other_than}
 use Rattle.judgement.specs.declared.judging.InterPredArgs.{InterPredArgs}
-use Rattle.judgement.specs.declared.judging.Led.{Led}
 
-unfoldable pub refusal : InterPredArgs → Led → ℕ
+unfoldable pub refusal : InterPredArgs → Lead → ℕ
 refusal b l =
     unless BLOCK (other_than BLOCK l.select && within 1 64 b.w && within 1 64 b.h)
     (unless GRID (other_than GRID l.clamp)

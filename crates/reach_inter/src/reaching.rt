@@ -1,33 +1,27 @@
 // The columns and rows of a reference's plane that a whole prediction can read: where its list leads, and how far the block reaches from there.
 ghost use Rattle.std.specs.Prelude.{◌≡◌};
+ghost use Rattle.base.specs.Refused.{told};
+ghost use Rattle.judgement.specs.Chain.{numbers};
+ghost use Rattle.reach.specs.Rectangle.{reached};
 ghost use Rattle.reach_inter.specs.InterReach as InterReach;
 ghost use Rattle.reach_inter.specs.Chain as Chain;
 
-use base::{BLOCK, Eighth, GRID, SIZE, START, VECTOR, natural, unless, within};
+use base::{Mv, Refusal, natural, within};
 use judgement::{FrameGeom, InterPredArgs, Led, RefGeom, lead, other_than, plane_geom};
-use reach::{Reach, readable};
-use selection::list_number;
+use reach::{Span, readable};
 use vectors::BlockGrid;
 
-// The lowest number, from the answers of the calls on vectors for the list, and from the block's size.
-fn refusal(args: InterPredArgs, led: Led) -> u32
-    ensures { result ≡ Chain.refusal args led }
+// The table's rows, from the answers of the calls on vectors for the list, and from the block's size.
+#[tactic(auto, unfolding(base::specs::Answer::unless, crate::specs::Chain::refusal))]
+fn allowed(args: InterPredArgs, led: Led) -> Result<(), Refusal>
+    ensures { told result ≡ Chain.refusal args (numbers led) }
 {
-    let block = other_than(BLOCK, led.select) & within(1, 64, args.w) & within(1, 64, args.h);
-    let rest = unless(
-        START,
-        other_than(START, led.scale),
-        unless(VECTOR, other_than(VECTOR, led.select), 0),
-    );
-    unless(
-        BLOCK,
-        block,
-        unless(
-            GRID,
-            other_than(GRID, led.clamp),
-            unless(SIZE, other_than(SIZE, led.scale), rest),
-        ),
-    )
+    let block = within(1, 64, args.w) & within(1, 64, args.h);
+    Refusal::Block.unless(other_than(Refusal::Block, led.select) & block)?;
+    Refusal::Grid.unless(other_than(Refusal::Grid, led.clamp))?;
+    Refusal::Size.unless(other_than(Refusal::Size, led.scale))?;
+    Refusal::Start.unless(other_than(Refusal::Start, led.scale))?;
+    Refusal::Vector.unless(other_than(Refusal::Vector, led.select))
 }
 
 // What a whole prediction can read of the plane of one list's reference, whose frame has this size.
@@ -35,12 +29,12 @@ pub fn inter_reach(
     args: InterPredArgs,
     grid: BlockGrid,
     frame: FrameGeom,
-    mvs: [[[Eighth; 2]; 4]; 2],
+    mvs: [[Mv; 4]; 2],
     second: bool,
     ref_width: i32,
     ref_height: i32,
-) -> Reach
-    ensures { result ≡ InterReach.inter_reach args grid frame mvs second ref_width ref_height }
+) -> Result<Span, Refusal>
+    ensures { reached result ≡ InterReach.inter_reach args grid frame mvs second ref_width ref_height }
 {
     let geom = RefGeom {
         frame_width: ref_width,
@@ -48,26 +42,16 @@ pub fn inter_reach(
         stride: 0,
         upper_rows: 0,
     };
-    let list = list_number(second);
-    let of = mvs[list];
-    let led = lead(args, grid, frame, geom, of);
-    let no = refusal(args, led);
-    if no != 0 {
-        return Reach {
-            answer: no,
-            first_col: 0,
-            last_col: 0,
-            first_row: 0,
-            last_row: 0,
-        };
-    }
+    let list = usize::from(second);
+    let led = lead(args, grid, frame, geom, mvs[list]);
+    allowed(args, led)?;
     let plane = plane_geom(args, frame, geom);
-    let from = led.from;
-    readable(
+    let from = led.scale.unwrap_or_default();
+    Ok(readable(
         args.w,
         args.h,
         natural(plane.width),
         natural(plane.height),
         from,
-    )
+    ))
 }

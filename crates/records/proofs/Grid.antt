@@ -18,7 +18,7 @@ use Rattle.places.specs.Places.{offset}
 use Rattle.records.specs.Tables.{grid_ok, inside, cell_at, spot_at, spot, own}
 use Rattle.records.specs.Lent.{Placed, cells}
 use Rattle.records.specs.declared.geometry.MvRefGeometry.{MvRefGeometry}
-use Rattle.records.specs.declared.geometry.Spot.TheVariants.{Out, Cell}
+use Rattle.std.specs.Prelude.{Some, None}
 
 -- ---- signed tests, said of unsigned numbers
 
@@ -131,7 +131,7 @@ own_in g e =
     cell_below (to_n g.mi_rows) (to_n g.mi_cols) (to_n g.mi_row) (to_n g.mi_col) ok.row ok.col
 
 at_in : (g : MvRefGeometry) (y x : ℤ) (t : Bool) → inside g y x ≡ t → grid_ok g ≡ true
-    → (i : ℕ) → cond t (Cell (cell_at g y x)) Out ≡ Cell i → i < cells g
+    → (i : ℕ) → cond t (Some (cell_at g y x)) None ≡ Some i → i < cells g
 at_in g y x true e ok i f =
     let same : cell_at g y x ≡ i = cc in
     let below = cell_below (to_n g.mi_rows) (to_n g.mi_cols) (to_n y) (to_n x) (in_rows g y x e) (in_cols g y x e (grid g ok)) in
@@ -139,7 +139,7 @@ at_in g y x true e ok i f =
 at_in g y x false e ok i f = let z : ◌≡◌ {A = ℕ} 0 1 = cc in absurd (omega arith)
 
 -- the cell of a place is a cell of the frame
-pub spot_in : (g : MvRefGeometry) (k i : ℕ) → grid_ok g ≡ true → spot g k ≡ Cell i → i < cells g
+pub spot_in : (g : MvRefGeometry) (k i : ℕ) → grid_ok g ≡ true → spot g k ≡ Some i → i < cells g
 unfolding spot spot_at
 spot_in g k i ok e =
     let y = g.mi_row +ℤ offset g.mi_size k 0 in

@@ -7,39 +7,42 @@ use borrow.Author.Tests.{leb-true}
 use lib.Dec.{leb}
 use lib.ListN.{get_or, length}
 use Rattle.base.proofs.Tests.{and_left, and_right}
-use Rattle.records.specs.Tables.{Tables, long_enough}
+use Rattle.records.specs.Tables.{long_enough}
+use Rattle.records.specs.Seen.{seen, has_prev, frames_of, mvs_of, is_used}
 use Rattle.records.specs.Lent.{cells, Room, PrevRoom}
 use Rattle.records.specs.declared.geometry.MvRefGeometry.{MvRefGeometry}
+use Rattle.records.specs.declared.tables.LentTables.{LentTables}
 use Rattle.records.proofs.Joined.{passed}
 
-module _ (t : Tables) (g : MvRefGeometry) (use_prev : Bool) (e : long_enough t g use_prev ≡ true) where
+module _ (l : LentTables) (g : MvRefGeometry) (e : long_enough (seen l) g (has_prev l) ≡ true) where
   prev : Bool
-  prev = leb (2 * cells g) (length t.prev_frames) && leb (4 * cells g) (length t.prev_mvs)
+  prev = leb (2 * cells g) (length (frames_of l.prev)) && leb (4 * cells g) (length (mvs_of l.prev))
 
   test : (k : ℕ)
-      → get_or (leb (cells g) (length t.modes) ∷ leb (2 * cells g) (length t.frames) ∷ leb (4 * cells g) (length t.mvs)
-      ∷ leb (16 * cells g) (length t.subs) ∷ cond use_prev prev true ∷ []) k true ≡ true
+      → get_or (leb (cells g) (length l.modes.now) ∷ leb (2 * cells g) (length l.frames.now) ∷ leb (4 * cells g) (length l.mvs.now)
+      ∷ leb (16 * cells g) (length l.subs.now) ∷ cond (is_used l.prev) prev true ∷ []) k true ≡ true
   unfolding long_enough prev
   test =
-      passed (leb (cells g) (length t.modes))
-      (leb (2 * cells g) (length t.frames) ∷ leb (4 * cells g) (length t.mvs) ∷ leb (16 * cells g) (length t.subs)
-      ∷ cond use_prev prev true ∷ []) e
+      passed (leb (cells g) (length l.modes.now))
+      (leb (2 * cells g) (length l.frames.now) ∷ leb (4 * cells g) (length l.mvs.now) ∷ leb (16 * cells g) (length l.subs.now)
+      ∷ cond (is_used l.prev) prev true ∷ []) e
 
-  pub room : Room (cells g) t.modes t.frames t.mvs t.subs
+  pub room : Room (cells g) l
   room =
       record {
-        modes = leb-true (cells g) (length t.modes) (test 0);
-        pairs = record { frames = leb-true (2 * cells g) (length t.frames) (test 1); mvs = leb-true (4 * cells g) (length t.mvs) (test 2) };
-        subs = leb-true (16 * cells g) (length t.subs) (test 3);
+        modes = leb-true (cells g) (length l.modes.now) (test 0);
+        frames = leb-true (2 * cells g) (length l.frames.now) (test 1);
+        mvs = leb-true (4 * cells g) (length l.mvs.now) (test 2);
+        subs = leb-true (16 * cells g) (length l.subs.now) (test 3);
       }
 
-  pub prev_room : PrevRoom use_prev (cells g) t.prev_frames t.prev_mvs
+  pub prev_room : PrevRoom (cells g) l.prev
   unfolding PrevRoom prev
-  prev_room on =
-      let both = rw on at (test 4) in
-      let frames = leb (2 * cells g) (length t.prev_frames) in
-      let mvs = leb (4 * cells g) (length t.prev_mvs) in
+  prev_room p is =
+      let both = rw is at (test 4) in
+      let frames = leb (2 * cells g) (length p.frames.now) in
+      let mvs = leb (4 * cells g) (length p.mvs.now) in
       record {
-        frames = leb-true (2 * cells g) (length t.prev_frames) (and_left frames mvs both);
-        mvs = leb-true (4 * cells g) (length t.prev_mvs) (and_right frames mvs both);
+        frames = leb-true (2 * cells g) (length p.frames.now) (and_left frames mvs both);
+        mvs = leb-true (4 * cells g) (length p.mvs.now) (and_right frames mvs both);
       }

@@ -1,3 +1,4 @@
 pub mod Tables
 pub mod Records
+pub mod Seen
 pub mod Lent

@@ -1,10 +1,8 @@
 -- Legal records: document 01, "Legal: mode 0..13, frame -1..3, components -32767..32767, for both lists and all sub-vectors". Assumes nothing.
-use Rattle.std.specs.Prelude.{ℕ, zero, suc, ◌+◌, ◌*◌, Bool, true, ◌&&◌, cond, List, leb, ℤ, pos, negsuc, get_or}
+use Rattle.std.specs.Prelude.{ℕ, zero, suc, ◌+◌, ◌*◌, Bool, true, ◌&&◌, cond, Option, Some, None, List, leb, ℤ, pos, negsuc, get_or}
 use Rattle.base.specs.Number.{between}
 use Rattle.records.specs.Tables.{Tables, frame_at, spot, own}
 use Rattle.records.specs.declared.geometry.MvRefGeometry.{MvRefGeometry}
-use Rattle.records.specs.declared.geometry.Spot.{Spot}
-use Rattle.records.specs.declared.geometry.Spot.TheVariants.{Out, Cell}
 
 -- the test passes at 0, 1, .., n - 1
 abbrev pub up_to : ℕ → (ℕ → Bool) → Bool
@@ -29,9 +27,9 @@ legal_pair frames mvs i = legal_frame (frame_at frames i 0) && legal_frame (fram
 unfoldable pub legal_record : Tables → ℕ → Bool
 legal_record t i = leb (get_or t.modes i 0) 13 && legal_pair t.frames t.mvs i && legal_parts t.subs (16 * i) 16
 
-unfoldable pub legal_spot : Tables → Spot → Bool
-legal_spot t Out = true
-legal_spot t (Cell i) = legal_record t i
+unfoldable pub legal_spot : Tables → Option ℕ → Bool
+legal_spot t None = true
+legal_spot t (Some i) = legal_record t i
 
 -- row 8: "Consulted records are those of the search places inside the tile and, with the previous frame, the block's own previous record"
 unfoldable pub legal_records : Tables → MvRefGeometry → Bool → Bool

@@ -1,5 +1,5 @@
 -- The lent tables and where a place looks in them: document 01, 'Lent tables' and 'Vectors'. Assumes nothing.
-use Rattle.std.specs.Prelude.{ℕ, ◌+◌, ◌*◌, Bool, true, ◌&&◌, cond, List, leb, ℤ, pos, ◌+ℤ◌, get_or, length}
+use Rattle.std.specs.Prelude.{ℕ, ◌+◌, ◌*◌, Bool, true, ◌&&◌, cond, Option, Some, None, List, leb, ℤ, pos, ◌+ℤ◌, get_or, length}
 use Rattle.std.specs.Int.Signed.{le_z, lt_z}
 use Rattle.base.specs.Number.{between}
 use Rattle.base.specs.Position.{to_n}
@@ -7,8 +7,6 @@ use Rattle.base.specs.Vector.{mv}
 use Rattle.base.specs.declared.units.Mv.{Mv}
 use Rattle.places.specs.Places.{offset}
 use Rattle.records.specs.declared.geometry.MvRefGeometry.{MvRefGeometry}
-use Rattle.records.specs.declared.geometry.Spot.{Spot}
-use Rattle.records.specs.declared.geometry.Spot.TheVariants.{Out, Cell}
 
 -- the six lent tables
 pub record Tables : Type 0 where
@@ -59,11 +57,11 @@ inside g row col =
     le_z (pos 0) row && lt_z row g.mi_rows && le_z g.mi_col_start col && lt_z col g.mi_col_end
 
 -- the cell of a row and a column, if it is inside
-unfoldable pub spot_at : MvRefGeometry → ℤ → ℤ → Spot
-spot_at g row col = cond (inside g row col) (Cell (cell_at g row col)) Out
+unfoldable pub spot_at : MvRefGeometry → ℤ → ℤ → Option ℕ
+spot_at g row col = cond (inside g row col) (Some (cell_at g row col)) None
 
 -- place k of the block, counted from 0: document 01 counts from one
-unfoldable pub spot : MvRefGeometry → ℕ → Spot
+unfoldable pub spot : MvRefGeometry → ℕ → Option ℕ
 spot g k = spot_at g (g.mi_row +ℤ offset g.mi_size k 0) (g.mi_col +ℤ offset g.mi_size k 1)
 
 -- the block's own cell, where its previous record stands

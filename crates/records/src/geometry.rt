@@ -1,6 +1,5 @@
 // Where a block and its neighbours stand, in cells of 8 by 8 luma samples.
-ghost use Rattle.std.specs.Prelude.{true, ◌≡◌, [], ◌<◌, get_or};
-ghost use Rattle.places.specs.Places as Places;
+ghost use Rattle.std.specs.Prelude.{◌≡◌};
 ghost use Rattle.records.specs.Tables as Tables;
 ghost use Rattle.records.specs.Lent.{Placed};
 
@@ -17,13 +16,6 @@ pub struct MvRefGeometry {
     pub mi_col_end: i32,
 }
 
-// The cell of a search place, if it is inside.
-#[derive(Clone, Copy)]
-pub enum Spot {
-    Out,
-    Cell(usize),
-}
-
 // Row 2 of document 01, for a call that is given a tile.
 pub fn grid_ok(g: MvRefGeometry) -> bool
     ensures { result ≡ Tables.grid_ok g }
@@ -38,44 +30,15 @@ pub fn grid_ok(g: MvRefGeometry) -> bool
         & (g.mi_col_end <= g.mi_cols)
 }
 
-fn inside(g: MvRefGeometry, row: i32, col: i32) -> bool
+pub(crate) fn inside(g: MvRefGeometry, row: i32, col: i32) -> bool
     ensures { result ≡ Tables.inside g row col }
 {
     (0 <= row) & (row < g.mi_rows) & (g.mi_col_start <= col) & (col < g.mi_col_end)
 }
 
-fn cell_at(g: MvRefGeometry, row: i32, col: i32) -> usize
+pub(crate) fn cell_at(g: MvRefGeometry, row: i32, col: i32) -> usize
     requires { Placed g row col }
     ensures { result ≡ Tables.cell_at g row col }
 {
     base::natural(row) * base::natural(g.mi_cols) + base::natural(col)
-}
-
-fn spot_at(g: MvRefGeometry, row: i32, col: i32) -> Spot
-    requires { Tables.grid_ok g ≡ true }
-    ensures { result ≡ Tables.spot_at g row col }
-{
-    if inside(g, row, col) {
-        Spot::Cell(cell_at(g, row, col))
-    } else {
-        Spot::Out
-    }
-}
-
-// The block's own cell.
-pub fn own(g: MvRefGeometry) -> usize
-    requires { Tables.grid_ok g ≡ true }
-    ensures { result ≡ Tables.own g }
-{
-    cell_at(g, g.mi_row, g.mi_col)
-}
-
-// Place k of the block, counted from 0.
-pub fn spot_of(near: [[i8; 2]; 8], g: MvRefGeometry, k: usize) -> Spot
-    requires { (Tables.grid_ok g ≡ true) × (near ≡ get_or Places.places g.mi_size []) × (k < 8) }
-    ensures { result ≡ Tables.spot g k }
-{
-    let row = g.mi_row + places::step_of(near, k, 0);
-    let col = g.mi_col + places::step_of(near, k, 1);
-    spot_at(g, row, col)
 }

@@ -3,8 +3,10 @@
 
 mod geometry;
 mod records;
+mod site;
 mod tables;
 
-pub use geometry::{MvRefGeometry, Spot, grid_ok, own, spot_of};
+pub use geometry::{MvRefGeometry, grid_ok};
 pub use records::{legal_records, long_enough};
-pub use tables::{frame_at, mv_at, sub_at};
+pub use site::Site;
+pub use tables::{LentTables, Pairs};

@@ -15,7 +15,7 @@ use Rattle.samples.specs.Call.{Ref, ref, Call, from_ref, value}
 use Rattle.reach.proofs.Places.{reads_in, in_plane}
 use Rattle.samples.specs.Reach.{Agree, SamePlane, Piece, Rectangle}
 use Rattle.blocks.specs.declared.block.BlockShape.{BlockShape}
-use Rattle.blocks.specs.declared.block.Stepping.{Stepping}
+use Rattle.base.specs.declared.units.Stepping.{Stepping}
 use Rattle.taps.proofs.Filtered.{samples_same}
 
 -- ---- samples

@@ -1,3 +1,2 @@
 pub mod Call
 pub mod Reach
-pub mod Single

@@ -5,7 +5,7 @@ use Rattle.planes.specs.Plane.{Lent, plane, width_of, height_of}
 use Rattle.reach.specs.Rectangle.{In, readable}
 use Rattle.reach.specs.declared.reaching.Reach.{Reach}
 use Rattle.samples.specs.Call.{Ref, Call}
-use Rattle.blocks.specs.declared.block.Stepping.{Stepping}
+use Rattle.base.specs.declared.units.Stepping.{Stepping}
 
 -- planes that agree on a rectangle
 abbrev pub AgreeOn : Reach → Lent → Lent → Type 0

@@ -4,6 +4,6 @@
 mod block_inter_pred;
 
 pub use block_inter_pred::block_inter_predict;
-pub use blocks::{BlockShape, Stepping};
-pub use planes::{PlaneGeom, row_read};
-pub use reach::{Reach, block_reach};
+pub use blocks::{BlockShape, Reference, Stepping};
+pub use planes::{PlaneGeom, row_or_empty, row_read};
+pub use reach::{Reach, Span, block_reach};

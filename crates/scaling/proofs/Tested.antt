@@ -5,9 +5,11 @@ use Prim.Native.Nat.{ℕ, ◌*◌, ◌≤◌}
 use borrow.Author.Tests.{leb-true}
 use lib.Dec.{leb}
 use lib.IntN.{ℤ, pos, negsuc}
+use mir.Syntax.{w32}
+use mir.Val.{to_z, of_z}
 use Rattle.base.specs.Number.{between}
 use Rattle.base.specs.Position.{to_n}
-use Rattle.base.proofs.Bd.{Bd, bd}
+use Rattle.base.proofs.Bd.{Bd, bd, rd}
 use Rattle.base.proofs.Tests.{clash, and_right, and_both, and_three, between_pos}
 use Rattle.scaling.specs.Scale.{sized, allowed, usable, placed}
 
@@ -52,3 +54,7 @@ pub usable_bd : (reference frame : ℤ) → usable reference frame ≡ true → 
 unfolding usable
 usable_bd reference frame e =
     let p = and_three (sized reference) (sized frame) (allowed reference frame) e in (sized_bd reference p.0, sized_bd frame p.1.0)
+
+pub usable_reads : (reference frame : ℤ) → usable reference frame ≡ true
+    → (to_z w32 (of_z w32 reference) ≡ reference) × (to_z w32 (of_z w32 frame) ≡ frame)
+usable_reads reference frame e = let b = usable_bd reference frame e in (rd w32 b.0 tt, rd w32 b.1 tt)

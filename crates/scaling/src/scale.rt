@@ -15,8 +15,8 @@ fn sized(n: i32) -> bool
 fn allowed(reference: i32, frame: i32) -> bool
     ensures { result ≡ Scale.allowed reference frame }
 {
-    let a = base::wide(reference);
-    let b = base::wide(frame);
+    let a = i64::from(reference);
+    let b = i64::from(frame);
     (a <= 2 * b) & (b <= 16 * a)
 }
 
@@ -64,13 +64,13 @@ fn frac_of(luma: usize, scale: usize) -> usize
 
 // v is a component of a clamped vector.
 fn start_of(x: usize, luma: usize, scale: usize, v: i32) -> Sixteenth
-    requires x_bound { (x ≤ 65535) × (luma ≤ 131070) }
-    requires scale_bound { (scale ≤ 32768) × (nat_abs v ≤ 65534) }
+    requires place { (x ≤ 65535) × (luma ≤ 131070) }
+    requires moved { (scale ≤ 32768) × (nat_abs v ≤ 65534) }
     ensures { result ≡ Vector.sixteenth (Scale.start_of x luma scale v) }
 {
     let at = (x * scale / 16384 * 16) as i64;
     let frac = frac_of(luma, scale) as i64;
-    let moved = (base::wide(v) * (scale as i64)) >> 14;
+    let moved = (i64::from(v) * (scale as i64)) >> 14;
     Sixteenth((at + (moved + frac)) as i32)
 }
 
@@ -82,8 +82,8 @@ pub fn start_axis(
     x: i32,
     v: Sixteenth,
 ) -> Sixteenth
-    requires frame_value { (Scale.usable reference frame ≡ true) × (Scale.placed x ≡ true) }
-    requires v_bound { nat_abs v.0 ≤ 65534 }
+    requires accepted { (Scale.usable reference frame ≡ true) × (Scale.placed x ≡ true) }
+    requires vector { nat_abs v.0 ≤ 65534 }
     ensures { result ≡ Vector.sixteenth (Scale.start_axis reference frame plane sub x v.0) }
 {
     let scale = scale_of(base::natural(reference), base::natural(frame));

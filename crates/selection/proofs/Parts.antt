@@ -1,9 +1,10 @@
 -- The vectors of a legal list, and of a legal block, are legal. Assumes nothing.
-use mathlib.Core.Path.{◌≡◌}
+use mathlib.Core.Path.{◌≡◌, refl}
 use mathlib.Core.Bool.{Bool, true, false}
 use Prim.Native.Nat.{ℕ, zero, suc, ◌+◌, ◌≤◌, ◌<◌}
 use native.Mathlib.Omega.{arith}
 use borrow.Author.Tests.{leb-true}
+use mir.Val.{bool_byte}
 use Rattle.base.specs.Vector.{legal_mv}
 use Rattle.base.proofs.Tests.{and_left, and_right, and_four}
 use Rattle.selection.specs.BlockMvs.{BlockMvs, mv_at, legal_list, legal_block}
@@ -26,6 +27,11 @@ pub legal-list : (m : BlockMvs) → legal_block m ≡ true → (second : Bool) �
 unfolding legal_block
 legal-list m e true = and_right (legal_list m 0) (legal_list m 1) e
 legal-list m e false = and_left (legal_list m 0) (legal_list m 1) e
+
+-- what a conversion of the choice to a number gives
+pub list_number-byte : (second : Bool) → bool_byte second ≡ list_number second
+list_number-byte true = refl
+list_number-byte false = refl
 
 pub list_number_small : (second : Bool) → list_number second < 2
 list_number_small true = omega arith

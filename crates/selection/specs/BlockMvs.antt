@@ -1,20 +1,15 @@
 -- A block's vectors as one value: document 01, 'From eighths to sixteenths'. Assumes nothing.
-use Rattle.std.specs.Prelude.{ℕ, Bool, ◌&&◌, List, [], pos, get_or}
-use Rattle.base.specs.Vector.{eighth, legal_mv}
-use Rattle.base.specs.declared.units.Eighth.{Eighth}
+use Rattle.std.specs.Prelude.{ℕ, Bool, ◌&&◌, List, [], get_or}
+use Rattle.base.specs.Vector.{zero_mv, legal_mv}
 use Rattle.base.specs.declared.units.Mv.{Mv}
 
--- list, then sub-block, then row and column
+-- list, then sub-block
 abbrev pub BlockMvs : Type 0
-BlockMvs = List (List (List Eighth))
+BlockMvs = List (List Mv)
 
 -- the vector of sub-block b in a list
 abbrev pub mv_at : BlockMvs → ℕ → ℕ → Mv
-mv_at m list b =
-    record {
-      row = get_or (get_or (get_or m list []) b []) 0 (eighth (pos 0));
-      col = get_or (get_or (get_or m list []) b []) 1 (eighth (pos 0));
-    }
+mv_at m list b = get_or (get_or m list []) b zero_mv
 
 unfoldable pub legal_list : BlockMvs → ℕ → Bool
 legal_list m list =

@@ -1,7 +1,7 @@
 -- The vector that a plane takes: the standard's 8.5.2.1, as document 01 restates it in 'From eighths to sixteenths'. Assumes nothing.
-use Rattle.std.specs.Prelude.{ℕ, ◌+◌, ◌-◌, Bool, ◌&&◌, ◌||◌, cond, leb, eqb, ℤ, pos, ◌+ℤ◌, ◌-ℤ◌}
+use Rattle.std.specs.Prelude.{ℕ, zero, suc, ◌+◌, ◌-◌, ◌/◌, Bool, ◌&&◌, ◌||◌, cond, leb, eqb, ℤ, pos, ◌+ℤ◌, ◌-ℤ◌, List, get_or}
 use Rattle.std.specs.Int.Signed.{lt_z, quot_z}
-use Rattle.base.specs.Vector.{mv}
+use Rattle.base.specs.Vector.{mv, zero_mv}
 use Rattle.base.specs.declared.units.Mv.{Mv}
 use Rattle.selection.specs.BlockMvs.{BlockMvs, mv_at}
 
@@ -11,6 +11,19 @@ halved v = quot_z (cond (lt_z v (pos 0)) (v -ℤ pos 1) (v +ℤ pos 1)) (pos 2)
 
 unfoldable pub quartered : ℤ → ℤ
 quartered v = quot_z (cond (lt_z v (pos 0)) (v -ℤ pos 2) (v +ℤ pos 2)) (pos 4)
+
+-- both are one rule: the nth part of a sum, ties away from zero
+unfoldable pub rounded : ℕ → ℤ → ℤ
+rounded n v = quot_z (cond (lt_z v (pos 0)) (v -ℤ pos (n / 2)) (v +ℤ pos (n / 2))) (pos n)
+
+-- the sum of the first n vectors' components that f reads
+unfoldable pub total : (Mv → ℤ) → List Mv → ℕ → ℤ
+total f of zero = pos 0
+total f of (suc n) = total f of n +ℤ f (get_or of n zero_mv)
+
+-- the mean of the first n vectors
+unfoldable pub mean : ℕ → List Mv → Mv
+mean n of = mv (rounded n (total (λ v. v.row.0) of n)) (rounded n (total (λ v. v.col.0) of n))
 
 -- the mean of two vectors, and of all four of a list
 unfoldable pub pair : Mv → Mv → Mv

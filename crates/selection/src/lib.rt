@@ -5,4 +5,4 @@ mod block_mvs;
 mod select;
 
 pub use block_mvs::is_legal_block;
-pub use select::{chosen, list_number, partnered};
+pub use select::{chosen, partnered};

@@ -8,10 +8,13 @@ ghost use Rattle.stored.specs.Bytes.{little, flag, signed, call_in};
 use std::io;
 use std::io::Write;
 
+// 'KNOB'
+const MAGIC: u32 = 0x424f_4e4b;
+
 pub fn byte_at(bytes: &[u8], at: usize) -> u8
     ensures { result ≡ get_or bytes.now at 0 }
 {
-    if at < bytes.len() { bytes[at] } else { 0 }
+    bytes.get(at).copied().unwrap_or(0)
 }
 
 pub fn flag_at(bytes: &[u8], at: usize) -> bool
@@ -20,42 +23,23 @@ pub fn flag_at(bytes: &[u8], at: usize) -> bool
     byte_at(bytes, at) != 0
 }
 
-fn wide(x: u8) -> u32
-    ensures { (result ≡ x) × (result ≤ 255) }
-{
-    x as u32
-}
-
-fn word(x: u32) -> usize
-    ensures { (result ≡ x) × (result ≤ 4294967295) }
-{
-    x as usize
-}
-
 pub fn u32_at(bytes: &[u8], at: usize) -> u32
     requires { at < 65536 }
     ensures { result ≡ little 4 bytes.now at }
 {
-    let next = at + 1;
-    let third = next + 1;
-    let last = third + 1;
-    let a = wide(byte_at(bytes, at));
-    let b = wide(byte_at(bytes, next));
-    let c = wide(byte_at(bytes, third));
-    let d = wide(byte_at(bytes, last));
-    a + 256 * (b + 256 * (c + 256 * d))
+    u32::from_le_bytes([
+        byte_at(bytes, at),
+        byte_at(bytes, at + 1),
+        byte_at(bytes, at + 2),
+        byte_at(bytes, at + 3),
+    ])
 }
 
 pub fn i32_at(bytes: &[u8], at: usize) -> i32
     requires { at < 65536 }
     ensures { result ≡ signed (little 4 bytes.now at) }
 {
-    let x = u32_at(bytes, at);
-    if x < 2147483648 {
-        x as i32
-    } else {
-        !((4294967295 - x) as i32)
-    }
+    u32_at(bytes, at).cast_signed()
 }
 
 // A u64 of the file is a usize of the call.
@@ -63,20 +47,19 @@ pub fn usize_at(bytes: &[u8], at: usize) -> usize
     requires { at < 32768 }
     ensures { result ≡ little 8 bytes.now at }
 {
-    let a = word(u32_at(bytes, at));
-    let b = word(u32_at(bytes, at + 4));
-    a + 4294967296 * b
+    let low = u32_at(bytes, at) as usize;
+    let high = u32_at(bytes, at + 4) as usize;
+    low + 4294967296 * high
 }
 
-// The number of a file's call, or 0 where the file does not begin as one of cases does.
-pub fn call_of(header: &[u8]) -> u32
+// The number of a file's call, where the file begins as one of cases does.
+pub fn call_of(header: &[u8]) -> Option<u32>
     ensures { result ≡ call_in header.now }
 {
-    let magic = u32_at(header, 0);
-    if magic == 0x424f_4e4b {
-        u32_at(header, 4)
+    if u32_at(header, 0) == MAGIC {
+        Some(u32_at(header, 4))
     } else {
-        0
+        None
     }
 }
 

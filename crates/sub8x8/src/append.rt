@@ -1,31 +1,23 @@
 // The standard's 6.5.14: append_sub8x8_mvs.
-ghost use Rattle.std.specs.Prelude.{[], ◌∷◌, ◌≡◌, ◌<◌};
+ghost use Rattle.std.specs.Prelude.{[], ◌∷◌, ◌≡◌, IfOk};
 ghost use Rattle.base.specs.Answer.{answer};
-ghost use Rattle.records.specs.Tables as Tables;
+ghost use Rattle.base.specs.Refused.{told};
+ghost use Rattle.records.specs.Seen.{seen, has_prev};
 ghost use Rattle.candidates.specs.Offers as Offers;
 ghost use Rattle.lists.specs.MvRef as MvRef;
 
-use base::{Eighth, Mv};
+use base::{Mv, Refusal};
 use candidates::Held;
-use lists::MvPair;
-use records::MvRefGeometry;
+use lists::Best;
+use records::{LentTables, MvRefGeometry, Site};
 
-fn sub_mv(m: [[Eighth; 2]; 4], b: usize) -> Mv
-    requires { b < 4 }
-    ensures { result ≡ MvRef.sub_mv m b }
-{
-    let row = m[b][0];
-    let col = m[b][1];
-    Mv { row, col }
-}
-
-fn is_legal_four(m: [[Eighth; 2]; 4]) -> bool
+fn is_legal_four(m: [Mv; 4]) -> bool
     ensures { result ≡ MvRef.legal_four m }
 {
-    let a = base::is_legal_mv(sub_mv(m, 0));
-    let b = base::is_legal_mv(sub_mv(m, 1));
-    let c = base::is_legal_mv(sub_mv(m, 2));
-    let d = base::is_legal_mv(sub_mv(m, 3));
+    let a = base::is_legal_mv(m[0]);
+    let b = base::is_legal_mv(m[1]);
+    let c = base::is_legal_mv(m[2]);
+    let d = base::is_legal_mv(m[3]);
     a & b & c & d
 }
 
@@ -33,23 +25,23 @@ fn is_legal_four(m: [[Eighth; 2]; 4]) -> bool
 fn offered(h: Held, first: Mv, second: Mv) -> Held
     ensures { result ≡ Offers.offers h (first ∷ second ∷ []) }
 {
-    candidates::add(candidates::add(h, first), second)
+    h.add(first).add(second)
 }
 
 // "1 and 2 take block vector 0 first, 3 takes block vector 2, then 1, then 0"
-fn before(block: usize, m: [[Eighth; 2]; 4]) -> Held
+fn before(block: usize, m: [Mv; 4]) -> Held
     ensures { result ≡ Offers.offers Offers.none (MvRef.before block m []) }
 {
-    let none = candidates::none_held();
+    let none = Held::default();
     if block <= 2 {
-        return candidates::add(none, sub_mv(m, 0));
+        return none.add(m[0]);
     }
-    let two = candidates::add(none, sub_mv(m, 2));
-    let one = candidates::add(two, sub_mv(m, 1));
-    candidates::add(one, sub_mv(m, 0))
+    let two = none.add(m[2]);
+    let one = two.add(m[1]);
+    one.add(m[0])
 }
 
-fn sub_list(block: usize, m: [[Eighth; 2]; 4], first: Mv, second: Mv) -> Held
+fn sub_list(block: usize, m: [Mv; 4], first: Mv, second: Mv) -> Held
     ensures { result ≡ MvRef.sub_list block m first second }
 {
     if block == 0 {
@@ -63,101 +55,38 @@ fn sub_list(block: usize, m: [[Eighth; 2]; 4], first: Mv, second: Mv) -> Held
 }
 
 // The rows of the search, then row 9.
-fn append_refusal(
-    modes: &[u8],
-    frames: &[i8],
-    mvs: &[i16],
-    subs: &[i16],
-    prev_frames: &[i8],
-    prev_mvs: &[i16],
+fn append_allowed(
+    tables: LentTables,
     g: MvRefGeometry,
     block: usize,
     target: i32,
-    m: [[Eighth; 2]; 4],
-    use_prev: bool,
-) -> u32
-    ensures { result ≡ answer (MvRef.append_rows (Tables.tables modes.now frames.now mvs.now subs.now
-        prev_frames.now prev_mvs.now) g target block m use_prev) }
+    m: [Mv; 4],
+) -> Result<Site, Refusal>
+    ensures told { told result ≡ answer (MvRef.append_rows (seen tables.entry) g target block m (has_prev tables.entry)) }
+    ensures site { IfOk result (λ s. s.geometry ≡ g) }
 {
-    let right = (g.mi_size <= 12) & (block <= 3);
-    let no = lists::search_refusal(
-        modes,
-        frames,
-        mvs,
-        subs,
-        prev_frames,
-        prev_mvs,
-        g,
-        target,
-        right,
-        use_prev,
-    );
-    if no != 0 {
-        return no;
-    }
-    let four = is_legal_four(m);
-    base::unless(base::VECTOR, four, 0)
+    let site = lists::search_allowed(tables, g, target, block <= 3)?;
+    Refusal::Vector.unless(is_legal_four(m))?;
+    Ok(site)
 }
 
 pub fn append_sub8x8_mvs(
-    modes: &[u8],
-    frames: &[i8],
-    mvs: &[i16],
-    subs: &[i16],
-    prev_frames: &[i8],
-    prev_mvs: &[i16],
+    tables: LentTables,
     geometry: MvRefGeometry,
     block: usize,
     target: i32,
-    block_mvs: [[Eighth; 2]; 4],
+    block_mvs: [Mv; 4],
     sign_bias: [bool; 4],
-    use_prev: bool,
-) -> MvPair
-    ensures { result ≡ MvRef.append_mvs (Tables.tables modes.now frames.now mvs.now subs.now
-        prev_frames.now prev_mvs.now) geometry target block block_mvs sign_bias use_prev }
+) -> Result<Best, Refusal>
+    ensures { MvRef.best_pair result
+        ≡ MvRef.append_mvs (seen tables.entry) geometry target block block_mvs sign_bias (has_prev tables.entry) }
 {
-    let no = append_refusal(
-        modes,
-        frames,
-        mvs,
-        subs,
-        prev_frames,
-        prev_mvs,
-        geometry,
-        block,
-        target,
-        block_mvs,
-        use_prev,
-    );
-    if no != 0 {
-        let zero = lists::zero_mv();
-        return MvPair {
-            answer: no,
-            first: zero,
-            second: zero,
-        };
-    }
-    let found = candidates::search(
-        modes,
-        frames,
-        mvs,
-        subs,
-        prev_frames,
-        prev_mvs,
-        geometry,
-        target,
-        block as i32,
-        sign_bias,
-        use_prev,
-    );
+    let site = append_allowed(tables, geometry, block, target, block_mvs)?;
+    let found = candidates::search(tables, site, target, block as i32, sign_bias);
     let first = lists::clamp_ref(128, geometry, found.first);
     let second = lists::clamp_ref(128, geometry, found.second);
     let list = sub_list(block, block_mvs, first, second);
     let nearest = list.first;
     let near = list.second;
-    MvPair {
-        answer: 0,
-        first: nearest,
-        second: near,
-    }
+    Ok(Best { nearest, near })
 }

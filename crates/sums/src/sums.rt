@@ -1,24 +1,17 @@
 // What is made of eight samples: the plain sum, the one for samples of at most 255 in sixteen bits, and the one for any samples in sixteen bits.
 ghost use Rattle.std.specs.Prelude.{◌≡◌, ◌+◌, ◌-◌, ◌*◌, ◌/◌, ◌%◌, ◌≤◌, ◌<◌, min};
-ghost use Rattle.taps.specs.Kernel.{IsTaps, joined_sums, low_one, low_sum, low_tap, products, raised_one, wide_one};
+ghost use Rattle.taps.specs.Kernel.{joined_sums, low_one, low_sum, low_tap, products, raised_one, wide_one};
 
-use taps::{Taps, lesser, topped};
-
-fn wide(x: u16) -> u32
-    ensures { (result ≡ x) × (result < 65536) }
-{
-    x as u32
-}
+use taps::{Taps, lesser};
 
 fn mul(t: u16, x: u16) -> u32
     requires { t ≤ 152 }
     ensures { (result ≡ t * x) × (result ≤ 9961320) }
 {
-    (t as u32) * (x as u32)
+    u32::from(t) * u32::from(x)
 }
 
 fn dot(p: Taps, a: u16, b: u16, c: u16, d: u16, e: u16, f: u16, g: u16, h: u16) -> u32
-    requires { IsTaps p }
     ensures { (result ≡ products p a b c d e f g h) × (result ≤ 79690560) }
 {
     mul(p.t0, a)
@@ -35,19 +28,14 @@ fn dot(p: Taps, a: u16, b: u16, c: u16, d: u16, e: u16, f: u16, g: u16, h: u16) 
 fn surplus(a: u16, b: u16, c: u16, d: u16, e: u16, f: u16, g: u16, h: u16) -> u32
     ensures { result ≡ 24 * (a + b + c + d + e + f + g + h) }
 {
-    24 * (wide(a) + wide(b) + wide(c) + wide(d) + wide(e) + wide(f) + wide(g) + wide(h))
-}
-
-fn less(s: u32, n: u32) -> u32
-    ensures { result ≡ s - n }
-{
-    if n < s { s - n } else { 0 }
-}
-
-fn least(v: u32, max: u16) -> u16
-    ensures { result ≡ min v max }
-{
-    if v < wide(max) { v as u16 } else { max }
+    24 * (u32::from(a)
+        + u32::from(b)
+        + u32::from(c)
+        + u32::from(d)
+        + u32::from(e)
+        + u32::from(f)
+        + u32::from(g)
+        + u32::from(h))
 }
 
 // Add 64, divide by 128 rounding down, hold into 0..max.
@@ -55,11 +43,10 @@ fn rounded(s: u32, n: u32, max: u16) -> u16
     requires { s ≤ 79690560 }
     ensures { result ≡ min ((s + 64 - n) / 128) max }
 {
-    least(less(s + 64, n) / 128, max)
+    ((s + 64).saturating_sub(n) / 128).min(u32::from(max)) as u16
 }
 
 pub fn one(p: Taps, a: u16, b: u16, c: u16, d: u16, e: u16, f: u16, g: u16, h: u16, max: u16) -> u16
-    requires { IsTaps p }
     ensures { result ≡ raised_one max p a b c d e f g h }
 {
     rounded(
@@ -81,11 +68,10 @@ fn product(t: u16, x: u16) -> u64
     requires { t ≤ 152 }
     ensures { (result ≡ low_tap t * x) × (result ≤ 4294836225) }
 {
-    (lowered(t) as u64) * (x as u64)
+    u64::from(lowered(t)) * u64::from(x)
 }
 
 fn low_sum(p: Taps, a: u16, b: u16, c: u16, d: u16, e: u16, f: u16, g: u16, h: u16) -> u64
-    requires { IsTaps p }
     ensures { (result ≡ low_sum p a b c d e f g h) × (result ≤ 34358689800) }
 {
     product(p.t0, a)
@@ -98,29 +84,16 @@ fn low_sum(p: Taps, a: u16, b: u16, c: u16, d: u16, e: u16, f: u16, g: u16, h: u
         + product(p.t7, h)
 }
 
-fn lessened(s: u16, n: u16) -> u16
-    ensures { result ≡ s - n }
-{
-    if s < n { 0 } else { s - n }
-}
-
-// By a choice, which the compiler makes shorter where it knows how large the number can be.
-fn byte(x: u16) -> u16
-    ensures { result ≡ min x 255 }
-{
-    if x < 255 { x } else { 255 }
-}
-
 // Rounded and held to 8 bits. Nothing is lost, since no sum with the 64 leaves -16,384..49,151; the floor comes before the division.
 fn rounded_low(s: u64) -> u16
     requires { s ≤ 34358689800 }
     ensures { result ≡ min (((s + 16448) % 65536 - 16384) / 128) 255 }
 {
-    byte(lessened(((s + 16448) % 65536) as u16, 16384) / 128)
+    let raised = ((s + 16448) % 65536) as u16;
+    (raised.saturating_sub(16384) / 128).min(255)
 }
 
 pub fn one_low(p: Taps, a: u16, b: u16, c: u16, d: u16, e: u16, f: u16, g: u16, h: u16) -> u16
-    requires { IsTaps p }
     ensures { result ≡ low_one p a b c d e f g h }
 {
     rounded_low(low_sum(p, a, b, c, d, e, f, g, h))
@@ -137,10 +110,12 @@ fn high(x: u16) -> u16
 fn joined(x: u16, z: u16, max: u16) -> u16
     ensures { result ≡ joined_sums max x z }
 {
-    let u = lessened(((x as u32 + 16448) % 65536) as u16, 16256);
+    let x_raised = ((u32::from(x) + 16448) % 65536) as u16;
+    let u = x_raised.saturating_sub(16256);
     let y = x % 256 * 256;
-    let v = ((z as u32 + 81984 - y as u32) % 65536) as u16;
-    lesser(lessened(topped(topped(u, u), v / 128), 512), max)
+    let v = ((u32::from(z) + 81984 - u32::from(y)) % 65536) as u16;
+    let sum = u.saturating_add(u).saturating_add(v / 128);
+    lesser(sum.saturating_sub(512), max)
 }
 
 fn wrapped(s: u64) -> u16
@@ -161,7 +136,6 @@ pub fn one_wide(
     h: u16,
     max: u16,
 ) -> u16
-    requires { IsTaps p }
     ensures { result ≡ wide_one max p a b c d e f g h }
 {
     joined(

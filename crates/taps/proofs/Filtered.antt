@@ -9,8 +9,9 @@ use Rattle.base.specs.Position.{to_n, floor_by, hold}
 use Rattle.base.proofs.Lift.{Diff, diff_pos, diff_add, diff_to_n}
 use Rattle.taps.specs.Taps.{tap}
 use Rattle.taps.specs.Filter.{sum, filtered}
-use Rattle.taps.specs.Kernel.{Raised, IsTaps, products, raised_one}
-use Rattle.taps.specs.declared.taps.Taps.{Taps}
+use Rattle.taps.specs.Eight.{Raised}
+use Rattle.taps.specs.Kernel.{products, raised_one}
+use Rattle.taps.specs.declared.eight.Taps.{Taps}
 use Rattle.taps.proofs.TapRules.{tap_whole}
 
 -- a sum below 0 is held to 0, before it is divided or after
@@ -37,12 +38,12 @@ diff_mul {z} {a} {b} e (suc x) = record {
 more : {s z : ℤ} {a b p : ℕ} → Diff s a b → Raised p z → (x : ℕ) → Diff (s +ℤ z *ℤ pos x) (a + p * x) (b + 24 * x)
 more {z = z} {p = p} d r x = let t : Diff z p 24 = record { is = sym r.is } in diff_add d (diff_mul t x)
 
-pub one_is : (max : ℕ) (p : Taps) (x : ℕ → ℕ) → IsTaps p
+pub one_is : (max : ℕ) (p : Taps) (x : ℕ → ℕ)
     → raised_one max p (x 0) (x 1) (x 2) (x 3) (x 4) (x 5) (x 6) (x 7) ≡ filtered max (tap p.filter p.phase) x
 unfolding raised_one
-one_is max p x r =
-    let d4 = more (more (more (more (diff_pos 0) r.t0 (x 0)) r.t1 (x 1)) r.t2 (x 2)) r.t3 (x 3) in
-    let d8 = more (more (more (more d4 r.t4 (x 4)) r.t5 (x 5)) r.t6 (x 6)) r.t7 (x 7) in
+one_is max p x =
+    let d4 = more (more (more (more (diff_pos 0) p.tap0 (x 0)) p.tap1 (x 1)) p.tap2 (x 2)) p.tap3 (x 3) in
+    let d8 = more (more (more (more d4 p.tap4 (x 4)) p.tap5 (x 5)) p.tap6 (x 6)) p.tap7 (x 7) in
     let all : to_n (sum 8 (tap p.filter p.phase) x +ℤ pos 64)
     ≡ products p (x 0) (x 1) (x 2) (x 3) (x 4) (x 5) (x 6) (x 7) + 64 - 24 * (x 0 + x 1 + x 2 + x 3 + x 4 + x 5 + x 6 + x 7)
     = diff_to_n _ _ _ (diff_add d8 (diff_pos 64)) ∙ omega arith in

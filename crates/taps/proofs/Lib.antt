@@ -2,4 +2,3 @@ pub mod Filtered
 pub mod Loops
 pub mod Runs
 pub mod TapRules
-pub mod Writes

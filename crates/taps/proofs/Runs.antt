@@ -1,4 +1,4 @@
--- Runs written one after the other are one, so are eight writes; runs with scratch past them, and the three of a gathered line. Assumes nothing.
+-- Runs written one after the other are one, so are four writes; runs with scratch past them, and the three of a gathered line. Assumes nothing.
 use mathlib.Core.Path.{◌≡◌, refl, sym, ap, ◌∙◌}
 use mathlib.Core.List.{List}
 use Prim.Native.Nat.{ℕ, zero, suc, ◌+◌, ◌-◌, ◌<◌, ◌≤◌, min}
@@ -27,14 +27,6 @@ fill_join l at n (suc k) f g q =
 pub four_written : (l : List ℕ) (at : ℕ) (f : ℕ → ℕ) → set (set (set (set l at (f 0)) (at + 1) (f 1)) (at + 2) (f 2)) (at + 3) (f 3) ≡ fill l at 4 f
 unfolding fill
 four_written l at f = rw add-zero refl
-
--- eight writes in a row
-pub eight_written : (l : List ℕ) (at : ℕ) (f : ℕ → ℕ)
-    → set (set (set (set (set (set (set (set l at (f 0)) (at + 1) (f 1)) (at + 2) (f 2)) (at + 3) (f 3)) (at + 4) (f 4)) (at + 5) (f 5)) (at + 6) (f 6))
-    (at + 7) (f 7)
-    ≡ fill l at 8 f
-unfolding fill
-eight_written l at f = rw add-zero refl
 
 -- a buffer filled so far, and n numbers more: a turn of a loop, or one of a list of calls
 pub run_turn : {l : List ℕ} {at m : ℕ} {f : ℕ → ℕ} {now next : List ℕ} (from n end : ℕ) (g : ℕ → ℕ) → Filling l at m f now

@@ -1,26 +1,9 @@
 -- Internal: what the rows compute, on lists and on positions lifted by 3,200,000, which is 200,000 columns or rows. No definition that a
 -- caller reads cites this file. Assumes nothing.
-use Rattle.std.specs.Prelude.{ℕ, zero, suc, ◌+◌, ◌-◌, ◌*◌, ◌/◌, ◌%◌, ◌≤◌, ◌<◌, min, ◌≡◌, List, ℤ, pos, ◌+ℤ◌, length, get_or}
+use Rattle.std.specs.Prelude.{ℕ, zero, suc, ◌+◌, ◌-◌, ◌*◌, ◌/◌, ◌%◌, ◌≤◌, ◌<◌, min, ◌≡◌, List, ℤ, length, get_or}
 use Rattle.base.specs.Paint.{fill}
-use Rattle.taps.specs.Taps.{tap}
 use Rattle.taps.specs.Filter.{filtered}
-use Rattle.taps.specs.declared.taps.Taps.{Taps}
-
--- p is the tap z with 24 added
-pub record Raised (p : ℕ) (z : ℤ) : Type 0 where
-  pub is : pos p ≡ z +ℤ pos 24
-  pub le : p ≤ 152
-
--- the eight taps of a filter and a phase
-pub record IsTaps (p : Taps) : Type 0 where
-  pub t0 : Raised p.t0 (tap p.filter p.phase 0)
-  pub t1 : Raised p.t1 (tap p.filter p.phase 1)
-  pub t2 : Raised p.t2 (tap p.filter p.phase 2)
-  pub t3 : Raised p.t3 (tap p.filter p.phase 3)
-  pub t4 : Raised p.t4 (tap p.filter p.phase 4)
-  pub t5 : Raised p.t5 (tap p.filter p.phase 5)
-  pub t6 : Raised p.t6 (tap p.filter p.phase 6)
-  pub t7 : Raised p.t7 (tap p.filter p.phase 7)
+use Rattle.taps.specs.declared.eight.Taps.{Taps}
 
 -- the sum of the eight products
 abbrev pub products : Taps → ℕ → ℕ → ℕ → ℕ → ℕ → ℕ → ℕ → ℕ → ℕ

@@ -1,3 +1,4 @@
 pub mod Taps
 pub mod Filter
+pub mod Eight
 pub mod Kernel

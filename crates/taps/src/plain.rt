@@ -1,13 +1,23 @@
-// What rows of results share: the lesser of two numbers; a run copied, held to the depth, averaged into the output.
+// What rows of results share: the lesser of two numbers; a row held to the depth, averaged into the output.
 ghost use Rattle.base.specs.Paint.{fill};
-ghost use Rattle.taps.specs.Kernel.{clipped, onward, mean_of};
-ghost use Rattle.std.specs.Prelude.{◌≡◌, ◌+◌, ◌/◌, ◌≤◌, min, length};
+ghost use Rattle.taps.specs.Kernel.{alike, clipped, onward, mean_of};
+ghost use Rattle.std.specs.Prelude.{◌≡◌, ◌+◌, ◌-◌, ◌/◌, ◌≤◌, min, length};
 
-// A sum that stops at 65,535.
-pub fn topped(a: u16, b: u16) -> u16
-    ensures { result ≡ min (a + b) 65535 }
+// Where column or row 0 stands for the first of a result's eight samples, which is 3 before it: positions are lifted by 200,000.
+pub const ORIGIN: usize = 200_003;
+
+// A lifted column or row, held into 0..last.
+pub fn held(b: usize, last: usize) -> usize
+    ensures { result ≡ min (b - ORIGIN) last }
 {
-    if 65535 - b < a { 65535 } else { a + b }
+    b.saturating_sub(ORIGIN).min(last)
+}
+
+// How many of m lifted columns from b on stand left of the plane.
+pub fn left_of(b: usize, m: usize) -> usize
+    ensures { result ≡ min (ORIGIN - b) m }
+{
+    ORIGIN.saturating_sub(b).min(m)
 }
 
 // Up to where a sum stops, and down again: for eight numbers at once that is two instructions, and a choice is three.
@@ -15,25 +25,31 @@ pub fn lesser(a: u16, b: u16) -> u16
     ensures { result ≡ min a b }
 {
     let up = 65535 - b;
-    topped(a, up) - up
+    a.saturating_add(up) - up
 }
 
-pub fn fewer(a: usize, b: usize) -> usize
-    ensures { result ≡ min a b }
+// One number again and again.
+pub fn repeated(x: u16, n: usize, out: &mut [u16], at: usize)
+    requires { at + n ≤ length out.old }
+    ensures { out.new ≡ fill out.old at n (alike x) }
 {
-    if a < b { a } else { b }
+    for c in 0..n {
+        out[at + c] = x;
+    }
 }
 
-pub fn run_copied(row: &[u16], s: usize, n: usize, line: &mut [u16], at: usize)
-    requires { (s + n ≤ length row.now) × (at + n ≤ length line.old) }
-    ensures { line.new ≡ fill line.old at n (onward row.now s) }
+// N samples, all read before one is written, so that the machine moves them together.
+#[tactic(auto, unfolding(crate::specs::Kernel::onward))]
+pub fn moved<const N: usize>(l: &[u16], s: usize, out: &mut [u16], at: usize)
+    requires { (s + N ≤ length l.now) × (at + N ≤ length out.old) }
+    ensures { out.new ≡ fill out.old at N (onward l.now s) }
 {
-    let mut c = 0;
-    while c < n {
-        let o = at + c;
-        let i = s + c;
-        line[o] = row[i];
-        c += 1;
+    let mut read = [0u16; N];
+    for c in 0..N {
+        read[c] = l[s + c];
+    }
+    for c in 0..N {
+        out[at + c] = read[c];
     }
 }
 
@@ -42,19 +58,15 @@ pub fn row_clipped(l: &[u16], b: usize, w: usize, max: u16, out: &mut [u16], at:
     requires { (b + w ≤ length l.now) × (at + w ≤ length out.old) }
     ensures { out.new ≡ fill out.old at w (clipped max l.now b) }
 {
-    let mut c = 0;
-    while c < w {
-        let o = at + c;
-        let s = b + c;
-        out[o] = lesser(l[s], max);
-        c += 1;
+    for c in 0..w {
+        out[at + c] = lesser(l[b + c], max);
     }
 }
 
 fn average(a: u16, b: u16) -> u16
     ensures { result ≡ (a + b + 1) / 2 }
 {
-    ((a as u32 + b as u32 + 1) / 2) as u16
+    ((u32::from(a) + u32::from(b) + 1) / 2) as u16
 }
 
 // The rounded means of a row of the output and of w numbers of a list.
@@ -62,11 +74,7 @@ pub fn row_averaged(l: &[u16], b: usize, w: usize, out: &mut [u16], at: usize)
     requires { (b + w ≤ length l.now) × (at + w ≤ length out.old) }
     ensures { out.new ≡ fill out.old at w (mean_of out.old at (onward l.now b)) }
 {
-    let mut c = 0;
-    while c < w {
-        let o = at + c;
-        let s = b + c;
-        out[o] = average(out[o], l[s]);
-        c += 1;
+    for c in 0..w {
+        out[at + c] = average(out[at + c], l[b + c]);
     }
 }

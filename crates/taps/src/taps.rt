@@ -1,7 +1,9 @@
 // The standard's subpel_filters, and eight of its taps made ready for unsigned sums.
-ghost use Rattle.std.specs.Prelude.{◌≡◌, [], get_or, ◌<◌};
+ghost use Rattle.std.specs.Prelude.{◌≡◌, ◌<◌};
 ghost use Rattle.taps.specs.Taps.{filters, tap};
-ghost use Rattle.taps.specs.Kernel.{Raised, IsTaps};
+ghost use Rattle.taps.specs.Eight.{Raised};
+
+use crate::eight::Taps;
 
 // The filters in the order of interp_filter: 0 regular, 1 smooth, 2 sharp, 3 bilinear. In each, phase, then tap.
 const SUBPEL_FILTERS: [[[i16; 8]; 16]; 4] = [
@@ -79,89 +81,35 @@ const SUBPEL_FILTERS: [[[i16; 8]; 16]; 4] = [
     ],
 ];
 
-// The whole table, to be lent to whoever fetches the taps of many phases: made once for a block.
-pub fn subpel_filters() -> [[[i16; 8]; 16]; 4]
-    ensures { result ≡ filters }
-{
-    SUBPEL_FILTERS
-}
-
-// The same table, lent: handed over, it is laid out anew on the caller's stack.
+// The whole table, lent from where the constants stand: a table that is handed over is laid out anew on the caller's stack.
 pub fn subpel_table() -> &'static [[[i16; 8]; 16]; 4]
     ensures { result.now ≡ filters }
 {
     &SUBPEL_FILTERS
 }
 
-// A row of the table, each tap with 24 added, so that none is below zero.
-#[derive(Clone, Copy)]
-pub struct Taps {
-    pub filter: usize,
-    pub phase: usize,
-    pub t0: u16,
-    pub t1: u16,
-    pub t2: u16,
-    pub t3: u16,
-    pub t4: u16,
-    pub t5: u16,
-    pub t6: u16,
-    pub t7: u16,
-}
-
-fn raised(rows: &[[i16; 8]; 16], filter: usize, phase: usize, t: usize) -> u16
-    requires rows_value { rows.now ≡ get_or filters filter [] }
-    requires filter_bound { (filter < 4) × (phase < 16) × (t < 8) }
+fn raised(filter: usize, phase: usize, t: usize) -> u16
+    requires { (filter < 4) × (phase < 16) × (t < 8) }
     ensures { Raised result (tap filter phase t) }
 {
-    (rows[phase][t] + 24) as u16
+    (subpel_table()[filter][phase][t] + 24) as u16
 }
 
-// The taps of a phase from the rows of one filter.
-fn taps_in(rows: &[[i16; 8]; 16], filter: usize, phase: usize) -> Taps
-    requires rows_value { rows.now ≡ get_or filters filter [] }
-    requires filter_bound { (filter < 4) × (phase < 16) }
-    ensures { (IsTaps result) × (result.filter ≡ filter) × (result.phase ≡ phase) }
+// The taps of a phase, read where the table lies.
+pub fn taps_at(filter: usize, phase: usize) -> Taps
+    requires { (filter < 4) × (phase < 16) }
+    ensures { (result.filter ≡ filter) × (result.phase ≡ phase) }
 {
     Taps {
-        filter: filter,
-        phase: phase,
-        t0: raised(rows, filter, phase, 0),
-        t1: raised(rows, filter, phase, 1),
-        t2: raised(rows, filter, phase, 2),
-        t3: raised(rows, filter, phase, 3),
-        t4: raised(rows, filter, phase, 4),
-        t5: raised(rows, filter, phase, 5),
-        t6: raised(rows, filter, phase, 6),
-        t7: raised(rows, filter, phase, 7),
+        filter,
+        phase,
+        t0: raised(filter, phase, 0),
+        t1: raised(filter, phase, 1),
+        t2: raised(filter, phase, 2),
+        t3: raised(filter, phase, 3),
+        t4: raised(filter, phase, 4),
+        t5: raised(filter, phase, 5),
+        t6: raised(filter, phase, 6),
+        t7: raised(filter, phase, 7),
     }
-}
-
-pub fn taps_at(table: &[[[i16; 8]; 16]; 4], filter: usize, phase: usize) -> Taps
-    requires table_value { table.now ≡ filters }
-    requires filter_bound { (filter < 4) × (phase < 16) }
-    ensures { (IsTaps result) × (result.filter ≡ filter) × (result.phase ≡ phase) }
-{
-    taps_in(&table[filter], filter, phase)
-}
-
-// The same without the table. The compiler lays out what is read: each literal place takes the rows of its one filter.
-pub fn taps_of(filter: usize, phase: usize) -> Taps
-    requires { (filter < 4) × (phase < 16) }
-    ensures { (IsTaps result) × (result.filter ≡ filter) × (result.phase ≡ phase) }
-{
-    let table = SUBPEL_FILTERS;
-    if filter == 0 {
-        let rows = table[0];
-        return taps_in(&rows, 0, phase);
-    }
-    if filter == 1 {
-        let rows = table[1];
-        return taps_in(&rows, 1, phase);
-    }
-    if filter == 2 {
-        let rows = table[2];
-        return taps_in(&rows, 2, phase);
-    }
-    let rows = table[3];
-    taps_in(&rows, 3, phase)
 }

@@ -1,8 +1,11 @@
 -- A vector held near the frame, or the refusal: the standard's 8.5.2.2. One axis of it stands below, in `clamping`. Assumes nothing.
-use Rattle.std.specs.Prelude.{ℕ, Bool, ◌&&◌, cond, List, [], ◌∷◌, leb, eqb, pos}
+use Rattle.std.specs.Prelude.{ℕ, Bool, ◌&&◌, cond, List, [], ◌∷◌, leb, eqb, pos, Result, Ok, Err}
 use Rattle.base.specs.Answer.{Row, row, answer, BLOCK, GRID, VECTOR}
+use Rattle.base.specs.Refused.{number}
 use Rattle.base.specs.Vector.{plane_mv, legal_mv}
+use Rattle.base.specs.declared.refusal.Refusal.{Refusal}
 use Rattle.base.specs.declared.units.Mv.{Mv}
+use Rattle.base.specs.declared.units.PlaneMv.{PlaneMv}
 use Rattle.clamping.specs.Sizes.{high, wide}
 use Rattle.vectors.specs.declared.inter_mv.BlockGrid.{BlockGrid}
 use Rattle.vectors.specs.declared.inter_mv.ClampedMv.{ClampedMv}
@@ -28,3 +31,8 @@ clamp_mv g v plane sx sy =
           (clamp_axis g.mi_cols (wide g.mi_size) g.mi_col v.col.0 (shift plane sx)))
           (plane_mv (pos 0) (pos 0));
     }
+
+-- an answer as C takes it: a refusal's number beside zeros
+abbrev pub clamped : Result PlaneMv Refusal → ClampedMv
+clamped (Ok v) = record { answer = 0; mv = v }
+clamped (Err r) = record { answer = number r; mv = plane_mv (pos 0) (pos 0) }

@@ -1,7 +1,10 @@
 -- The vector that a plane takes, or the refusal: the standard's 8.5.2.1. What the vector is made of stands below, in `selection`. Assumes nothing.
-use Rattle.std.specs.Prelude.{ℕ, Bool, ◌&&◌, cond, List, [], ◌∷◌, leb, eqb}
+use Rattle.std.specs.Prelude.{ℕ, Bool, ◌&&◌, cond, List, [], ◌∷◌, leb, eqb, Result, Ok, Err}
 use Rattle.base.specs.Answer.{Row, row, answer, BLOCK, VECTOR}
+use Rattle.base.specs.Refused.{number}
 use Rattle.base.specs.Vector.{zero_mv}
+use Rattle.base.specs.declared.refusal.Refusal.{Refusal}
+use Rattle.base.specs.declared.units.Mv.{Mv}
 use Rattle.selection.specs.BlockMvs.{BlockMvs, legal_block}
 use Rattle.vectors.specs.declared.inter_mv.SelectedMv.{SelectedMv}
 pub use Rattle.selection.specs.Select.{list_number}
@@ -18,3 +21,8 @@ unfoldable pub select_mv : BlockMvs → Bool → ℕ → ℕ → ℕ → Bool �
 select_mv m second plane size b sx sy =
     let no = answer (select_rows m plane size b sx sy) in
     record { answer = no; mv = cond (eqb no 0) (chosen m (list_number second) plane size b sx sy) zero_mv }
+
+-- an answer as C takes it: a refusal's number beside zeros
+abbrev pub selected : Result Mv Refusal → SelectedMv
+selected (Ok v) = record { answer = 0; mv = v }
+selected (Err r) = record { answer = number r; mv = zero_mv }

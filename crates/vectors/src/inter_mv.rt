@@ -1,70 +1,77 @@
 // The standard's 8.5.2.1 to 8.5.2.3: which vector a plane takes, held near the frame, and where in the reference it leads.
-ghost use Rattle.std.specs.Prelude.{◌≡◌};
+ghost use Rattle.std.specs.Prelude.{◌≡◌, ◌&&◌};
 ghost use Rattle.base.specs.Answer.{answer};
+ghost use Rattle.base.specs.Refused.{told};
 ghost use Rattle.vectors.specs.Select as Select;
 ghost use Rattle.vectors.specs.Clamp as Clamp;
 ghost use Rattle.vectors.specs.Scale as Scale;
 
-use base::{Eighth, Mv, PlaneMv, Sixteenth};
+use base::{Mv, PlaneMv, Refusal, Sixteenth, Stepping};
+use clamping::Axis;
 
 // ---- selection, 8.5.2.1
 
+// A selected vector as C takes it: a refusal's number beside zeros.
 #[repr(C)]
-#[derive(Clone, Copy)]
+#[derive(Clone, Copy, Debug, PartialEq, Eq)]
 pub struct SelectedMv {
     pub answer: u32,
     pub mv: Mv,
 }
 
-fn select_refusal(
-    mvs: [[[Eighth; 2]; 4]; 2],
+impl From<Result<Mv, Refusal>> for SelectedMv {
+    ghost from_gives = { λ r s. s ≡ Select.selected r };
+
+    fn from(found: Result<Mv, Refusal>) -> SelectedMv {
+        match found {
+            Ok(mv) => SelectedMv { answer: 0, mv },
+            Err(refusal) => SelectedMv {
+                answer: refusal.number(),
+                mv: Mv::default(),
+            },
+        }
+    }
+}
+
+// Rows 1 and 9.
+fn select_allowed(
+    mvs: [[Mv; 4]; 2],
     plane: usize,
     size: u8,
     block: usize,
     sx: bool,
     sy: bool,
-) -> u32
-    ensures { result ≡ answer (Select.select_rows mvs plane size block sx sy) }
+) -> Result<(), Refusal>
+    ensures { told result ≡ answer (Select.select_rows mvs plane size block sx sy) }
 {
     let partner = selection::partnered(plane, size, block, sx, sy);
-    let right = (size <= 12) & (block <= 3) & (plane <= 2) & partner;
-    let vectors = selection::is_legal_block(mvs);
-    base::unless(base::BLOCK, right, base::unless(base::VECTOR, vectors, 0))
+    Refusal::Block.unless((size <= 12) & (block <= 3) & (plane <= 2) & partner)?;
+    Refusal::Vector.unless(selection::is_legal_block(mvs))
 }
 
 // The vector that a plane of a block takes from a list.
 pub fn select_mv(
-    mvs: [[[Eighth; 2]; 4]; 2],
+    mvs: [[Mv; 4]; 2],
     second: bool,
     plane: usize,
     size: u8,
     block: usize,
     sx: bool,
     sy: bool,
-) -> SelectedMv
-    ensures { result ≡ Select.select_mv mvs second plane size block sx sy }
+) -> Result<Mv, Refusal>
+    ensures { Select.selected result ≡ Select.select_mv mvs second plane size block sx sy }
 {
-    let no = select_refusal(mvs, plane, size, block, sx, sy);
-    if no != 0 {
-        let zero = Mv {
-            row: Eighth(0),
-            col: Eighth(0),
-        };
-        return SelectedMv {
-            answer: no,
-            mv: zero,
-        };
-    }
-    let list = selection::list_number(second);
-    let mv = selection::chosen(mvs, list, plane, size, block, sx, sy);
-    SelectedMv { answer: 0, mv }
+    select_allowed(mvs, plane, size, block, sx, sy)?;
+    let list = usize::from(second);
+    let vector = selection::chosen(mvs, list, plane, size, block, sx, sy);
+    Ok(vector)
 }
 
 // ---- clamping, 8.5.2.2
 
 // Where a block stands, in cells of 8 by 8 luma samples.
 #[repr(C)]
-#[derive(Clone, Copy)]
+#[derive(Clone, Copy, Debug, PartialEq, Eq)]
 pub struct BlockGrid {
     pub mi_row: i32,
     pub mi_col: i32,
@@ -73,60 +80,80 @@ pub struct BlockGrid {
     pub mi_size: u8,
 }
 
+impl BlockGrid {
+    // The block's first cell lies in a frame of an allowed size.
+    fn is_inside(self) -> bool
+        ensures { result ≡ Clamp.on_axis self.mi_rows self.mi_row && Clamp.on_axis self.mi_cols self.mi_col }
+    {
+        let down = clamping::on_axis(self.mi_rows, self.mi_row);
+        let across = clamping::on_axis(self.mi_cols, self.mi_col);
+        down & across
+    }
+}
+
+// A clamped vector as C takes it: a refusal's number beside zeros.
 #[repr(C)]
-#[derive(Clone, Copy)]
+#[derive(Clone, Copy, Debug, PartialEq, Eq)]
 pub struct ClampedMv {
     pub answer: u32,
     pub mv: PlaneMv,
 }
 
-fn clamp_refusal(grid: BlockGrid, v: Mv, plane: usize) -> u32
-    ensures { result ≡ answer (Clamp.clamp_rows grid v plane) }
+impl From<Result<PlaneMv, Refusal>> for ClampedMv {
+    ghost from_gives = { λ r c. c ≡ Clamp.clamped r };
+
+    fn from(held: Result<PlaneMv, Refusal>) -> ClampedMv {
+        match held {
+            Ok(mv) => ClampedMv { answer: 0, mv },
+            Err(refusal) => ClampedMv {
+                answer: refusal.number(),
+                mv: PlaneMv::default(),
+            },
+        }
+    }
+}
+
+// Rows 1, 2 and 9.
+fn clamp_allowed(grid: BlockGrid, v: Mv, plane: usize) -> Result<(), Refusal>
+    ensures { told result ≡ answer (Clamp.clamp_rows grid v plane) }
 {
-    let block = (grid.mi_size <= 12) & (plane <= 2);
-    let place = clamping::on_axis(grid.mi_rows, grid.mi_row)
-        & clamping::on_axis(grid.mi_cols, grid.mi_col);
-    let vector = base::is_legal_mv(v);
-    base::unless(
-        base::BLOCK,
-        block,
-        base::unless(base::GRID, place, base::unless(base::VECTOR, vector, 0)),
-    )
+    Refusal::Block.unless((grid.mi_size <= 12) & (plane <= 2))?;
+    Refusal::Grid.unless(grid.is_inside())?;
+    Refusal::Vector.unless(base::is_legal_mv(v))
 }
 
 // The vector in the plane's own units, held near the frame.
-pub fn clamp_mv(grid: BlockGrid, mv: Mv, plane: usize, sx: bool, sy: bool) -> ClampedMv
-    ensures { result ≡ Clamp.clamp_mv grid mv plane sx sy }
+pub fn clamp_mv(
+    grid: BlockGrid,
+    mv: Mv,
+    plane: usize,
+    sx: bool,
+    sy: bool,
+) -> Result<PlaneMv, Refusal>
+    ensures { Clamp.clamped result ≡ Clamp.clamp_mv grid mv plane sx sy }
 {
-    let no = clamp_refusal(grid, mv, plane);
-    if no != 0 {
-        let zero = PlaneMv {
-            row: Sixteenth(0),
-            col: Sixteenth(0),
-        };
-        return ClampedMv {
-            answer: no,
-            mv: zero,
-        };
-    }
-    let high = clamping::num_8x8_high(grid.mi_size as usize);
-    let wide = clamping::num_8x8_wide(grid.mi_size as usize);
-    let down = clamping::shift(plane, sy);
-    let row = clamping::clamp_axis(grid.mi_rows, high, grid.mi_row, mv.row, down);
-    let across = clamping::shift(plane, sx);
-    let col = clamping::clamp_axis(grid.mi_cols, wide, grid.mi_col, mv.col, across);
-    let held = PlaneMv { row, col };
-    ClampedMv {
-        answer: 0,
-        mv: held,
-    }
+    clamp_allowed(grid, mv, plane)?;
+    let size = usize::from(grid.mi_size);
+    let down = Axis {
+        total: grid.mi_rows,
+        length: clamping::num_8x8_high(size),
+        first: grid.mi_row,
+    };
+    let across = Axis {
+        total: grid.mi_cols,
+        length: clamping::num_8x8_wide(size),
+        first: grid.mi_col,
+    };
+    let row = down.clamp(mv.row, clamping::shift(plane, sy));
+    let col = across.clamp(mv.col, clamping::shift(plane, sx));
+    Ok(PlaneMv { row, col })
 }
 
 // ---- scaling, 8.5.2.3
 
 // The sizes of a reference and of the frame in luma samples, and the stream's sub.
 #[repr(C)]
-#[derive(Clone, Copy)]
+#[derive(Clone, Copy, Debug, PartialEq, Eq)]
 pub struct ScaleGeom {
     pub ref_frame_width: i32,
     pub ref_frame_height: i32,
@@ -136,9 +163,21 @@ pub struct ScaleGeom {
     pub subsampling_y: bool,
 }
 
-// Where a block starts in the reference's plane, and the step from sample to sample.
+impl ScaleGeom {
+    // The reference may serve a frame of this size.
+    fn is_usable(self) -> bool
+        ensures { result
+            ≡ Scale.usable self.ref_frame_width self.frame_width && Scale.usable self.ref_frame_height self.frame_height }
+    {
+        let across = scaling::usable(self.ref_frame_width, self.frame_width);
+        let down = scaling::usable(self.ref_frame_height, self.frame_height);
+        across & down
+    }
+}
+
+// A scaled vector as C takes it: a refusal's number beside zeros.
 #[repr(C)]
-#[derive(Clone, Copy)]
+#[derive(Clone, Copy, Debug, PartialEq, Eq)]
 pub struct ScaledMv {
     pub answer: u32,
     pub start_x: Sixteenth,
@@ -147,32 +186,45 @@ pub struct ScaledMv {
     pub step_y: Sixteenth,
 }
 
-fn scale_refusal(geom: ScaleGeom, plane: usize, x: i32, y: i32, v: PlaneMv) -> u32
-    ensures { result ≡ answer (Scale.scale_rows geom plane x y v) }
-{
-    let block = plane <= 2;
-    let size = scaling::usable(geom.ref_frame_width, geom.frame_width)
-        & scaling::usable(geom.ref_frame_height, geom.frame_height);
-    let start = scaling::placed(x) & scaling::placed(y);
-    let vector = scaling::is_legal16(v);
-    let rest = base::unless(base::START, start, base::unless(base::VECTOR, vector, 0));
-    base::unless(base::BLOCK, block, base::unless(base::SIZE, size, rest))
+impl From<Result<Stepping, Refusal>> for ScaledMv {
+    ghost from_gives = { λ r s. s ≡ Scale.scaled r };
+
+    fn from(led: Result<Stepping, Refusal>) -> ScaledMv {
+        let (answer, at) = match led {
+            Ok(at) => (0, at),
+            Err(refusal) => (refusal.number(), Stepping::default()),
+        };
+        ScaledMv {
+            answer,
+            start_x: at.start_x,
+            start_y: at.start_y,
+            step_x: at.step_x,
+            step_y: at.step_y,
+        }
+    }
 }
 
-// The position in the reference's plane that a clamped vector leads to, and the steps.
-pub fn scale_mv(geom: ScaleGeom, plane: usize, x: i32, y: i32, mv: PlaneMv) -> ScaledMv
-    ensures { result ≡ Scale.scale_mv geom plane x y mv }
+// Rows 1, 5, 6 and 9.
+fn scale_allowed(geom: ScaleGeom, plane: usize, x: i32, y: i32, v: PlaneMv) -> Result<(), Refusal>
+    ensures { told result ≡ answer (Scale.scale_rows geom plane x y v) }
 {
-    let no = scale_refusal(geom, plane, x, y, mv);
-    if no != 0 {
-        return ScaledMv {
-            answer: no,
-            start_x: Sixteenth(0),
-            start_y: Sixteenth(0),
-            step_x: Sixteenth(0),
-            step_y: Sixteenth(0),
-        };
-    }
+    Refusal::Block.unless(plane <= 2)?;
+    Refusal::Size.unless(geom.is_usable())?;
+    Refusal::Start.unless(scaling::placed(x) & scaling::placed(y))?;
+    Refusal::Vector.unless(scaling::is_legal16(v))
+}
+
+// Where a block starts in the reference's plane, and the step from sample to sample.
+pub fn scale_mv(
+    geom: ScaleGeom,
+    plane: usize,
+    x: i32,
+    y: i32,
+    mv: PlaneMv,
+) -> Result<Stepping, Refusal>
+    ensures { Scale.scaled result ≡ Scale.scale_mv geom plane x y mv }
+{
+    scale_allowed(geom, plane, x, y, mv)?;
     let start_x = scaling::start_axis(
         geom.ref_frame_width,
         geom.frame_width,
@@ -191,11 +243,10 @@ pub fn scale_mv(geom: ScaleGeom, plane: usize, x: i32, y: i32, mv: PlaneMv) -> S
     );
     let step_x = scaling::step_axis(geom.ref_frame_width, geom.frame_width);
     let step_y = scaling::step_axis(geom.ref_frame_height, geom.frame_height);
-    ScaledMv {
-        answer: 0,
+    Ok(Stepping {
         start_x,
         start_y,
         step_x,
         step_y,
-    }
+    })
 }

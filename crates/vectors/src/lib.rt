@@ -7,6 +7,6 @@ mod inter_mv;
 pub use inter_mv::{
     BlockGrid, ClampedMv, ScaleGeom, ScaledMv, SelectedMv, clamp_mv, scale_mv, select_mv,
 };
-pub use lists::{MvPair, MvRefs, find_best_ref_mvs, find_mv_refs};
-pub use records::MvRefGeometry;
+pub use lists::{Best, MvPair, MvRefs, find_best_ref_mvs, find_mv_refs};
+pub use records::{LentTables, MvRefGeometry, Pairs};
 pub use sub8x8::append_sub8x8_mvs;

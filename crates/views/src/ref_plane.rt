@@ -1,11 +1,14 @@
 // A plane of a reference as block prediction sees it: the two bands beside the plane's own size.
 ghost use Rattle.std.specs.Prelude.{◌≡◌};
 ghost use Rattle.base.specs.Answer.{answer};
-ghost use Rattle.planes.specs.Plane.{geom, lent, read_rows, ReadOutcome};
+ghost use Rattle.base.specs.Refused.{told};
+ghost use Rattle.blocks.specs.Referred.{referred};
+ghost use Rattle.planes.specs.Plane.{geom, lent, read_rows, row_or, ReadOutcome};
 ghost use Rattle.samples.specs.Call.{call, ref, Outcome};
 ghost use Rattle.views.specs.Seen.{size_of, lent_by};
 
-use samples::{BlockShape, PlaneGeom, Stepping, block_inter_predict, row_read};
+use base::Refusal;
+use samples::{BlockShape, PlaneGeom, Reference, Stepping, block_inter_predict, row_read};
 
 // The bands, the plane's size in samples, the distance between rows, and how many rows the upper band has; the lower one has the rest.
 #[derive(Clone, Copy)]
@@ -46,17 +49,34 @@ impl<'a> RefPlane<'a> {
         }
     }
 
-    // A row, a part of the band that holds it; the answer's number goes into number.
-    pub fn row(self, y: usize, number: &mut u32) -> &'a [u16]
-        ensures { ReadOutcome (size_of self.entry) self.entry.upper self.entry.lower y number.new result }
+    pub fn size(self) -> PlaneGeom
+        ensures { result ≡ size_of self.entry }
     {
-        let size = PlaneGeom {
+        PlaneGeom {
             width: self.width,
             height: self.height,
             stride: self.stride,
             upper_rows: self.upper_rows,
-        };
-        row_read(self.upper, self.lower, size, y, number)
+        }
+    }
+
+    // This plane as a block's reference, which starts and steps like from.
+    pub fn reference(self, from: Stepping) -> Reference<'a>
+        ensures { referred result ≡ ref (lent_by self.entry) from }
+    {
+        Reference {
+            geom: self.size(),
+            from,
+            upper: self.upper,
+            lower: self.lower,
+        }
+    }
+
+    // A row, a part of the band that holds it.
+    pub fn row(self, y: usize) -> Result<&'a [u16], Refusal>
+        ensures { ReadOutcome (size_of self.entry) self.entry.upper self.entry.lower y (told result) (row_or self.entry.upper result) }
+    {
+        row_read(self.upper, self.lower, self.size(), y)
     }
 
     // A block from this plane, which is lent for both lists: where the shape says average, it is one with itself.
@@ -67,20 +87,11 @@ impl<'a> RefPlane<'a> {
         room: &mut [u16],
         out: &mut [u16],
         stride: usize,
-    ) -> u32
+    ) -> Result<(), Refusal>
         ensures { Outcome (call shape (ref (lent_by self.entry) from) (ref (lent_by self.entry) from) stride)
-            out.old room.old result out.new room.new }
+            out.old room.old (told result) out.new room.new }
     {
-        let size = PlaneGeom {
-            width: self.width,
-            height: self.height,
-            stride: self.stride,
-            upper_rows: self.upper_rows,
-        };
-        block_inter_predict(
-            shape, size, from, self.upper, self.lower, size, from, self.upper, self.lower, room,
-            out, stride,
-        )
+        self.predict_mean(self, shape, from, from, room, out, stride)
     }
 
     // A block from this plane and, where the shape says average, from the other one too.
@@ -93,32 +104,14 @@ impl<'a> RefPlane<'a> {
         room: &mut [u16],
         out: &mut [u16],
         stride: usize,
-    ) -> u32
+    ) -> Result<(), Refusal>
         ensures { Outcome (call shape (ref (lent_by self.entry) from) (ref (lent_by other.entry) from2) stride)
-            out.old room.old result out.new room.new }
+            out.old room.old (told result) out.new room.new }
     {
-        let size = PlaneGeom {
-            width: self.width,
-            height: self.height,
-            stride: self.stride,
-            upper_rows: self.upper_rows,
-        };
-        let size2 = PlaneGeom {
-            width: other.width,
-            height: other.height,
-            stride: other.stride,
-            upper_rows: other.upper_rows,
-        };
         block_inter_predict(
             shape,
-            size,
-            from,
-            self.upper,
-            self.lower,
-            size2,
-            from2,
-            other.upper,
-            other.lower,
+            self.reference(from),
+            other.reference(from2),
             room,
             out,
             stride,
@@ -135,14 +128,13 @@ pub fn read_row<'a>(
     stride: usize,
     upper_rows: usize,
     y: usize,
-    number: &mut u32,
-) -> &'a [u16]
-    ensures { ReadOutcome (geom width height stride upper_rows) upper.entry lower.entry y number.new result }
+) -> Result<&'a [u16], Refusal>
+    ensures { ReadOutcome (geom width height stride upper_rows) upper.entry lower.entry y (told result) (row_or upper.entry result) }
 {
-    RefPlane::new(upper, lower, width, height, stride, upper_rows).row(y, number)
+    RefPlane::new(upper, lower, width, height, stride, upper_rows).row(y)
 }
 
-// What reading row y would answer.
+// Whether row y can be read.
 pub fn row_answer<'a>(
     upper: &'a [u16],
     lower: &'a [u16],
@@ -151,12 +143,9 @@ pub fn row_answer<'a>(
     stride: usize,
     upper_rows: usize,
     y: usize,
-) -> u32
-    ensures { result ≡ answer (read_rows (lent (geom width height stride upper_rows) upper.now lower.now) y) }
+) -> Result<(), Refusal>
+    ensures { told result ≡ answer (read_rows (lent (geom width height stride upper_rows) upper.now lower.now) y) }
 {
-    let mut told = 0;
-    read_row(
-        upper, lower, width, height, stride, upper_rows, y, &mut told,
-    );
-    told
+    read_row(upper, lower, width, height, stride, upper_rows, y)?;
+    Ok(())
 }

@@ -1,14 +1,14 @@
--- `call_of` meets its contract. Assumes nothing.
-use mathlib.Core.Path.{sym, ◌∙◌}
+-- `call_of` meets its contract: the test of the first word is the definition's. Assumes nothing.
+use Rattle.std.proofs.Common.{sym, ap, ◌∙◌, Some}
 use borrow.Author.Tests.{eq-eqb, ne_eqb}
 use Rattle.stored.specs.Bytes.{call_in}
 use Rattle.stored.proofs.call_of.Goals as goal
 
-pub returns-then-magic-eq1112493643 : goal.returns-then-magic-eq1112493643
+pub returns-then-u32_at-eq-MAGIC : goal.returns-then-u32_at-eq-MAGIC
 unfolding call_in
-returns-then-magic-eq1112493643 c =
-    rw (eq-eqb _ 1112493643 (sym c.u32_at-magic.ensures ∙ c.if-magic-eq1112493643.true)) c.u32_at.ensures
+returns-then-u32_at-eq-MAGIC c =
+    rw (eq-eqb _ 1112493643 (sym c.u32_at.ensures ∙ c.if-u32_at-eq-MAGIC.true)) (ap Some c.u32_at-then-u32_at-eq-MAGIC.ensures)
 
-pub returns-else-magic-eq1112493643 : goal.returns-else-magic-eq1112493643
+pub returns-else-u32_at-eq-MAGIC : goal.returns-else-u32_at-eq-MAGIC
 unfolding call_in
-returns-else-magic-eq1112493643 c = rw (ne_eqb _ 1112493643 (λ e. c.if-magic-eq1112493643.false (c.u32_at-magic.ensures ∙ e)))
+returns-else-u32_at-eq-MAGIC c = rw (ne_eqb _ 1112493643 (λ e. c.if-u32_at-eq-MAGIC.false (c.u32_at.ensures ∙ e)))

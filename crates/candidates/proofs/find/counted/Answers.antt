@@ -6,15 +6,14 @@ use Rattle.candidates.proofs.find.counted.Goals as goal
 
 pub bounds-modes-i : goal.bounds-modes-i
 unfolding ModeAt
-bounds-modes-i c =
-    c.requires c.in-Cell.i c.in-Cell.is
+bounds-modes-i c = c.requires c.in-Some.i c.in-Some.is
 
-pub returns-in-Out : goal.returns-in-Out
+pub returns-in-None : goal.returns-in-None
 unfolding counted
-returns-in-Out c = record { is = rw c.in-Out.is; small = omega arith }
+returns-in-None c = record { is = rw c.in-None.is; small = omega arith }
 
-pub returns-in-Cell : goal.returns-in-Cell
+pub returns-in-Some : goal.returns-in-Some
 unfolding counted
-returns-in-Cell c =
+returns-in-Some c =
     let r = c.counter_of.ensures in
-    record { is = rw c.in-Cell.is r.is; small = r.small }
+    record { is = rw c.in-Some.is r.is; small = r.small }

@@ -7,13 +7,13 @@ use Rattle.candidates.proofs.find.sub_place.Goals as goal
 pub sub_record-requires : goal.sub_record-requires
 unfolding SubsAt
 sub_record-requires c =
-    record { subs = c.requires.subs_at c.in-Cell.i c.in-Cell.is; number_bound = c.requires.number_bound }
+    record { room = c.requires.room c.in-Some.i c.in-Some.is; number = c.requires.number }
 
-pub returns-in-Out : goal.returns-in-Out
+pub returns-in-None : goal.returns-in-None
 unfolding sub_place_at offers
-returns-in-Out c = rw c.in-Out.is
+returns-in-None c = rw c.in-None.is
 
-pub returns-in-Cell : goal.returns-in-Cell
+pub returns-in-Some : goal.returns-in-Some
 unfolding sub_place_at
-returns-in-Cell c =
-    rw c.in-Cell.is (rw (back c.ranges.target) at c.sub_record.ensures)
+returns-in-Some c =
+    rw c.in-Some.is (rw (back c.ranges.target) at c.sub_record.ensures)

@@ -11,7 +11,7 @@ pub returns-then-list-eq1 : goal.returns-then-list-eq1
 unfolding asked
 returns-then-list-eq1 c =
     let suits-is : let a = c.args in
-    suits a.ask (frame_at a.frames.now a.i a.list)
+    suits a.ask (frame_at a.pairs.frames.now a.i a.list)
     ≡ c.suits.result = sym (c.suits.ensures ∙ ap (suits c.args.ask) (back (record { sfits = c.frame_at.type_inv }) ∙ c.frame_at.ensures)) in
     let a = c.args in
     rw (suits-is ∙ c.if-suits.true, eq-eqb a.list 1 c.if-list-eq1.true) (ap not c.covered.ensures)
@@ -20,7 +20,7 @@ pub returns-else-list-eq1 : goal.returns-else-list-eq1
 unfolding asked
 returns-else-list-eq1 c =
     let suits-is : let a = c.args in
-    suits a.ask (frame_at a.frames.now a.i a.list)
+    suits a.ask (frame_at a.pairs.frames.now a.i a.list)
     ≡ c.suits.result = sym (c.suits.ensures ∙ ap (suits c.args.ask) (back (record { sfits = c.frame_at.type_inv }) ∙ c.frame_at.ensures)) in
     let a = c.args in
     rw (suits-is ∙ c.if-suits.true, ne_eqb a.list 1 c.if-list-eq1.false)
@@ -29,6 +29,6 @@ pub returns-else-suits : goal.returns-else-suits
 unfolding asked
 returns-else-suits c =
     let suits-is : let a = c.args in
-    suits a.ask (frame_at a.frames.now a.i a.list)
+    suits a.ask (frame_at a.pairs.frames.now a.i a.list)
     ≡ c.suits.result = sym (c.suits.ensures ∙ ap (suits c.args.ask) (back (record { sfits = c.frame_at.type_inv }) ∙ c.frame_at.ensures)) in
     rw (suits-is ∙ c.if-suits.false)

@@ -2,6 +2,8 @@
 use native.Mathlib.Omega.{arith}
 use mir.Syntax.{w32}
 use mir.Val.{SFits}
+use mathlib.Core.Path.{◌∙◌}
+use Rattle.base.proofs.Same.{mv_equal}
 use Rattle.base.proofs.Bits.{eqb-bits}
 use Rattle.candidates.specs.Scan.{covered}
 use Rattle.candidates.proofs.scan.covered.Goals as goal
@@ -9,7 +11,7 @@ use Rattle.candidates.proofs.scan.covered.Goals as goal
 pub returns-then-ask : goal.returns-then-ask
 unfolding covered
 returns-then-ask c =
-    rw (c.if-ask.true, ← c.mv_at.ensures.is, ← c.mv_at-then-ask.ensures.is) c.same_mv.ensures
+    rw (c.if-ask.true, ← c.mv_at.ensures.is, ← c.mv_at-then-ask.ensures.is) (c.eq.ensures ∙ mv_equal c.mv_at.result c.mv_at-then-ask.result)
 
 pub returns-else-ask : goal.returns-else-ask
 unfolding covered

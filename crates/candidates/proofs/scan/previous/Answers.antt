@@ -3,41 +3,36 @@ use mathlib.Core.List.{append-nil}
 use mathlib.Core.Path.{sym, ◌∙◌}
 use Prim.Native.Nat.{◌+◌}
 use native.Mathlib.Omega.{arith}
-use borrow.Author.Rules.{rules}
 use Rattle.candidates.specs.Offers.{offers, run}
-use Rattle.records.specs.Lent.{Pairs, PrevRoom}
+use Rattle.records.specs.Lent.{PairRoom, PrevRoom}
 use Rattle.candidates.specs.Scan.{list_of, prev_of}
 use Rattle.candidates.proofs.Folds.{offers_append}
 use Rattle.records.proofs.Grid.{own_in}
 use Rattle.candidates.proofs.scan.previous.Goals as goal
 use Rattle.candidates.proofs.scan.previous.Goals.{After-own-i}
 
-room : (c : After-own-i) → let a = c.args in Pairs (c.own-i.result + 1) a.prev_frames.now a.prev_mvs.now
+roomy : (c : After-own-i) → PairRoom (c.own-i.result + 1) c.in-Some.pairs
 unfolding PrevRoom
-room c =
-    let below = own_in c.args.g c.requires.g_value in
-    let pairs = c.requires.prev_room c.if-use_prev.true in
-    omega (arith, c.own-i.ensures, below, pairs.frames, pairs.mvs)
+roomy c =
+    let below = own_in c.args.site.geometry c.args.site.grid in
+    let room = c.requires c.in-Some.pairs c.in-Some.is in
+    omega (arith, c.own-i.ensures)
 
 pub one_list-h-requires : goal.one_list-h-requires
-one_list-h-requires c = record { pairs = room c; list_bound = search rules }
+one_list-h-requires c = record { room = roomy c; list = omega arith }
 
 pub one_list-requires : goal.one_list-requires
-unfolding PrevRoom
-one_list-requires c =
-    let room : let a = c.args in Pairs (c.own-i.result + 1) a.prev_frames.now a.prev_mvs.now = let below = own_in c.args.g c.requires.g_value in
-    let pairs = c.requires.prev_room c.if-use_prev.true in
-    omega (arith, c.own-i.ensures, below, pairs.frames, pairs.mvs) in
-    record { pairs = room; list_bound = search rules }
+one_list-requires c = record { room = roomy c.before; list = omega arith }
 
-pub returns-then-use_prev : goal.returns-then-use_prev
-unfolding prev_of run
-returns-then-use_prev c =
-    let a = c.args in
-    let lists = list_of a.prev_frames.now a.prev_mvs.now a.ask c.own-i.result in
-    c.one_list.ensures
-    ∙ rw (c.one_list-h.ensures, c.if-use_prev.true, ← c.own-i.ensures, append-nil (lists 1)) (sym (offers_append a.held (lists 0) (lists 1)))
-
-pub returns-else-use_prev : goal.returns-else-use_prev
+pub returns-in-None : goal.returns-in-None
 unfolding prev_of offers
-returns-else-use_prev c = rw c.if-use_prev.false
+returns-in-None c = rw c.in-None.is
+
+pub returns-in-Some : goal.returns-in-Some
+unfolding prev_of run
+returns-in-Some c =
+    let a = c.args in
+    let pairs = c.in-Some.pairs in
+    let lists = list_of pairs.frames.now pairs.mvs.now a.ask c.own-i.result in
+    c.one_list.ensures
+    ∙ rw (c.one_list-h.ensures, c.in-Some.is, ← c.own-i.ensures, append-nil (lists 1)) (sym (offers_append a.held (lists 0) (lists 1)))

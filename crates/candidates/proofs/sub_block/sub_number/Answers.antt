@@ -34,14 +34,11 @@ bounds-b c = omega (arith, block-small c.before.before)
 pub bounds-c : goal.bounds-c
 bounds-c c = rw c.column_of-c.ensures (column_small _)
 
-pub overflow_cast-result : goal.overflow_cast-result
-unfolding columns
-overflow_cast-result c = record { fits = omega (arith, entry_small c.natural-b.result c.column_of-c.result) }
-
 pub returns : goal.returns
 unfolding sub_number columns column
 returns c =
     let minus = rw (back c.ranges.block) at c.if-block-lt0.false in
-    let column-is = c.column_of-c.ensures ∙ ap column (back c.ranges.offset) in
+    let column_is = c.column_of-c.ensures ∙ ap column (back c.ranges.offset) in
     let number = natural_of c.ranges.block c.natural-b.ensures in
-    record { is = rw (minus, ← number, ← column-is); small = entry_small c.natural-b.result c.column_of-c.result }
+    let read = c.from.ensures in
+    record { is = read ∙ rw (minus, ← number, ← column_is); small = rw read (entry_small c.natural-b.result c.column_of-c.result) }

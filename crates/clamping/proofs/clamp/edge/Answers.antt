@@ -3,19 +3,13 @@ use mathlib.Core.Path.{refl}
 use Prim.Native.Nat.{◌^◌}
 use lib.IntN.{pos}
 use mir.Syntax.{w32}
-use Rattle.base.proofs.Bd.{Bd, bd, lit, ◌⊛◌, shr, fits, rd}
+use Rattle.base.proofs.Bd.{Bd, bd, lit, ◌⊛◌, shr, rd}
 use Rattle.clamping.specs.Clamp.{edge}
 use Rattle.clamping.proofs.clamp.edge.Goals as goal
 use Rattle.clamping.proofs.clamp.edge.Goals.{Start}
 
 cells : (c : Start) → Bd 16392 c.args.cells
 cells c = bd c.args.cells c.requires.0
-
-pub overflow_mul-result : goal.overflow_mul-result
-overflow_mul-result c = let x = cells c in rw (rd w32 x tt) (fits (x ⊛ lit (pos 8)) tt)
-
-pub overflow_mul-result-2 : goal.overflow_mul-result-2
-overflow_mul-result-2 c = let x = cells c in let x8 = x ⊛ lit (pos 8) in rw (rd w32 x tt, rd w32 x8 tt) (fits (x8 ⊛ lit (pos 16)) tt)
 
 pub returns : goal.returns
 unfolding edge

@@ -3,29 +3,13 @@ use mathlib.Core.Path.{refl}
 use Prim.Native.Nat.{◌^◌}
 use lib.IntN.{pos}
 use mir.Syntax.{w32}
-use Rattle.base.proofs.Bd.{Bd, bd, lit, ◌⊕◌, ◌⊛◌, shr, fits, rd}
+use Rattle.base.proofs.Bd.{Bd, bd, lit, ◌⊕◌, ◌⊛◌, shr, rd}
 use Rattle.clamping.specs.Clamp.{margin}
 use Rattle.clamping.proofs.clamp.margin.Goals as goal
 use Rattle.clamping.proofs.clamp.margin.Goals.{Start}
 
 n : (c : Start) → Bd 8 c.args.n
 n c = bd c.args.n c.requires.0
-
-pub overflow_mul-result : goal.overflow_mul-result
-overflow_mul-result c = rw (rd w32 (n c) tt) (fits (n c ⊛ lit (pos 8)) tt)
-
-pub overflow_add-result : goal.overflow_add-result
-overflow_add-result c =
-    let n8 = n c ⊛ lit (pos 8) in
-    let m = shr (2 ^ c.args.s) n8 in
-    rw (rd w32 (n c) tt, rd w32 n8 tt, rd w32 m tt) (fits (lit (pos 4) ⊕ m) tt)
-
-pub overflow_mul-result-2 : goal.overflow_mul-result-2
-overflow_mul-result-2 c =
-    let n8 = n c ⊛ lit (pos 8) in
-    let m = shr (2 ^ c.args.s) n8 in
-    let k = lit (pos 4) ⊕ m in
-    rw (rd w32 (n c) tt, rd w32 n8 tt, rd w32 m tt, rd w32 k tt) (fits (k ⊛ lit (pos 16)) tt)
 
 pub returns : goal.returns
 unfolding margin

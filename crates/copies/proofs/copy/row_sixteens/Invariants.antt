@@ -1,12 +1,8 @@
--- `copies::copy::row_sixteens` meets its contract. The loop keeps up that the first c samples are written, c a multiple of sixteen. Assumes nothing.
-use mathlib.Core.Path.{◌≡◌}
-use Prim.Native.Nat.{◌-◌, ◌%◌, ◌≤◌}
+-- `copies::copy::row_sixteens` meets its contract. The loop keeps up that the first i sixteens are written. Assumes nothing.
+use Prim.Native.Nat.{◌*◌}
 use Rattle.taps.specs.Kernel.{clipped}
 use Rattle.taps.proofs.Loops.{Filling}
 use Rattle.copies.proofs.copy.row_sixteens.Given as goal
 
-abbrev pub invariant-loop-c : goal.invariant-loop-c
-invariant-loop-c l = (l.c ≤ l.w) × (l.c % 16 ≡ 0) × Filling l.initial.out l.at l.c (clipped l.max l.l l.b) l.out
-
-abbrev pub decreases-loop-c : goal.decreases-loop-c
-decreases-loop-c l = l.w - l.c
+abbrev pub invariant-loop-i : goal.invariant-loop-i
+invariant-loop-i l = Filling l.initial.out l.at (l.i * 16) (clipped l.max l.l l.b) l.out

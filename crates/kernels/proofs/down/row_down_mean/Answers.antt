@@ -4,12 +4,8 @@ use native.Mathlib.Omega.{arith}
 use Rattle.kernels.proofs.Lines.{mean_filled}
 use Rattle.kernels.proofs.down.row_down_mean.Goals as goal
 
-pub row_down-requires : goal.row_down-requires
-row_down-requires c =
-    record { taps = c.requires.taps; filter_bound = omega (arith, c.requires.filter_bound); below = c.requires.below; max_bound = c.requires.max_bound }
-
 pub returns : goal.returns
 returns c =
     let a = c.args in
     rw c.row_down.ensures at c.row_averaged.ensures
-    ∙ mean_filled a.out.now _ a.at a.w _ a.out.now (omega (arith, c.requires.filter_bound))
+    ∙ mean_filled a.out.now _ a.at a.w _ a.out.now (omega (arith, c.requires.w_bound))

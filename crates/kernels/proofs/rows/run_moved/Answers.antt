@@ -5,7 +5,7 @@ use Rattle.taps.proofs.Runs.{gathered_fill, gathered_less}
 use Rattle.kernels.proofs.rows.run_moved.Goals as goal
 
 pub returns-then-row-s-ge8 : goal.returns-then-row-s-ge8
-returns-then-row-s-ge8 c = gathered_less _ _ (gathered_fill _ 8 _ (omega arith) c.eight_moved.ensures) (omega arith) (λ k h. refl)
+returns-then-row-s-ge8 c = gathered_less _ _ (gathered_fill _ 8 _ (omega arith) c.moved.ensures) (omega arith) (λ k h. refl)
 
-pub returns : goal.returns
-returns c = gathered_fill _ _ _ (omega arith) c.first.ensures
+pub returns-else-row-s-ge8 : goal.returns-else-row-s-ge8
+returns-else-row-s-ge8 c = gathered_fill _ _ _ (omega arith) c.first.ensures

@@ -4,8 +4,7 @@ use mathlib.Core.List.{List}
 use Prim.Native.Nat.{ℕ, ◌+◌}
 use native.Mathlib.Nat.{add-zero}
 use native.Mathlib.Omega.{arith}
-use lib.ListN.{set, length-set}
-use borrow.Author.Rules.{rules}
+use lib.ListN.{set}
 use Rattle.base.specs.Paint.{fill}
 use Rattle.taps.specs.Kernel.{onward}
 use Rattle.lanes.proofs.lanes.few_moved.Goals as goal
@@ -36,18 +35,12 @@ returns-then-w-eq1 c =
     let e : a.w ≡ 1 = omega arith in
     rw e (rw add-zero at (one_written a.out.now a.at (onward a.l.now a.s)))
 
-pub bounds-out-at-2 : goal.bounds-out-at-2
-bounds-out-at-2 c = rw length-set (search rules)
-
 pub returns-then-w-eq2 : goal.returns-then-w-eq2
 unfolding onward
 returns-then-w-eq2 c =
     let a = c.args in
     let e : a.w ≡ 2 = omega arith in
     rw e (rw add-zero at (two-written a.out.now a.at (onward a.l.now a.s)))
-
-pub bounds-out-at-3 : goal.bounds-out-at-3
-bounds-out-at-3 c = rw (length-set, length-set) (search rules)
 
 pub returns : goal.returns
 unfolding onward

@@ -1,10 +1,6 @@
 -- `lanes::lanes::rows_are_low` meets its contract. The loop keeps up that no sample so far is above v. Assumes nothing.
-use Prim.Native.Nat.{◌-◌, ◌≤◌}
 use Rattle.taps.specs.Kernel.{UpToRows}
 use Rattle.lanes.proofs.lanes.rows_are_low.Given as goal
 
 abbrev pub invariant-loop-i : goal.invariant-loop-i
-invariant-loop-i l = (l.i ≤ l.h) × UpToRows l.v l.l l.b l.line l.m l.i
-
-abbrev pub decreases-loop-i : goal.decreases-loop-i
-decreases-loop-i l = l.h - l.i
+invariant-loop-i l = UpToRows l.v l.l l.b l.line l.m l.i

@@ -1,11 +1,7 @@
 -- `lanes::lanes::rows_first` meets its contract. The loop keeps up that the first i rows are written. Assumes nothing.
-use Prim.Native.Nat.{◌-◌, ◌≤◌}
-use Rattle.taps.proofs.Loops.{FillingRows}
 use Rattle.taps.specs.Kernel.{eighths}
+use Rattle.taps.proofs.Loops.{FillingRows}
 use Rattle.lanes.proofs.lanes.rows_first.Given as goal
 
 abbrev pub invariant-loop-i : goal.invariant-loop-i
-invariant-loop-i l = (l.i ≤ l.h) × FillingRows l.initial.out l.at l.stride l.w l.i (eighths l.l) l.out
-
-abbrev pub decreases-loop-i : goal.decreases-loop-i
-decreases-loop-i l = l.h - l.i
+invariant-loop-i l = FillingRows l.initial.out l.at l.stride l.w l.i (eighths l.l) l.out

@@ -1,80 +1,44 @@
 -- `clamp_ref` meets its contract: both axes are clamped. Assumes nothing.
 use mir.Syntax.{w32}
-use Rattle.base.proofs.Bd.{Bd, bd, rd}
-use Rattle.records.proofs.Grid.{Grid, grid}
+use Rattle.base.proofs.Bd.{bd, rd}
+use Rattle.clamping.proofs.Bounds.{reads}
+use Rattle.records.proofs.Grid.{grid}
 use Rattle.lists.specs.MvRef.{clamp_ref}
 use Rattle.lists.proofs.mv_ref.clamp_ref.Goals as goal
-use Rattle.lists.proofs.mv_ref.clamp_ref.Goals.{After-num_8x8_high-high, After-num_8x8_wide-wide, Start}
 
-accepted : (c : Start) → Grid c.args.g
-accepted c = grid c.args.g c.requires.2
+pub invariant_of-down : goal.invariant_of-down
+invariant_of-down c =
+    let a = grid c.args.g c.requires.grid in
+    record {
+      total_bound = reads (bd c.args.g.mi_rows a.rows_abs) tt;
+      length_bound = reads (bd c.num_8x8_high.result c.num_8x8_high.ensures.1) tt;
+      first_bound = reads (bd c.args.g.mi_row a.row_abs) tt;
+    }
 
-border : (c : Start) → Bd 1248 c.args.border
-border c = bd c.args.border c.requires.0
-
-rows : (c : Start) → Bd 8192 c.args.g.mi_rows
-rows c = bd c.args.g.mi_rows (accepted c).rows_abs
-
-cols : (c : Start) → Bd 8192 c.args.g.mi_cols
-cols c = bd c.args.g.mi_cols (accepted c).cols_abs
-
-row : (c : Start) → Bd 8192 c.args.g.mi_row
-row c = bd c.args.g.mi_row (accepted c).row_abs
-
-col : (c : Start) → Bd 8192 c.args.g.mi_col
-col c = bd c.args.g.mi_col (accepted c).col_abs
-
-high : (c : After-num_8x8_high-high) → Bd 8 c.num_8x8_high-high.result
-high c = bd c.num_8x8_high-high.result c.num_8x8_high-high.ensures.1
-
-wide : (c : After-num_8x8_wide-wide) → Bd 8 c.num_8x8_wide-wide.result
-wide c = bd c.num_8x8_wide-wide.result c.num_8x8_wide-wide.ensures.1
-
-pub clamp_part-row-requires : goal.clamp_part-row-requires
-clamp_part-row-requires c =
-    rw (
-      rd w32 (border c.before.before.before.before.before.before) tt,
-      rd w32 (rows c.before.before.before.before.before.before) tt,
-      rd w32 (high c.before.before.before.before.before) tt,
-      rd w32 (row c.before.before.before.before.before.before) tt,
-    )
-    (record {
-      border_bound = ((border c.before.before.before.before.before.before).le, (rows c.before.before.before.before.before.before).le);
-      n_bound = ((high c.before.before.before.before.before).le, (row c.before.before.before.before.before.before).le);
-    })
-
-pub clamp_part-col-requires : goal.clamp_part-col-requires
-clamp_part-col-requires c =
-    rw (
-      rd w32 (border c.before.before.before.before.before.before.before.before.before.before) tt,
-      rd w32 (cols c.before.before.before.before.before.before.before.before.before.before) tt,
-      rd w32 (wide c.before.before.before.before.before.before.before.before) tt,
-      rd w32 (col c.before.before.before.before.before.before.before.before.before.before) tt,
-    )
-    (record {
-      border_bound = (
-        (border c.before.before.before.before.before.before.before.before.before.before).le,
-        (cols c.before.before.before.before.before.before.before.before.before.before).le,
-      );
-      n_bound = (
-        (wide c.before.before.before.before.before.before.before.before).le,
-        (col c.before.before.before.before.before.before.before.before.before.before).le,
-      );
-    })
+pub invariant_of-across : goal.invariant_of-across
+invariant_of-across c =
+    let a = grid c.args.g c.requires.grid in
+    record {
+      total_bound = reads (bd c.args.g.mi_cols a.cols_abs) tt;
+      length_bound = reads (bd c.num_8x8_wide.result c.num_8x8_wide.ensures.1) tt;
+      first_bound = reads (bd c.args.g.mi_col a.col_abs) tt;
+    }
 
 pub returns : goal.returns
 unfolding clamp_ref
 returns c =
+    let a = grid c.args.g c.requires.grid in
+    let border = rd w32 (bd c.args.border c.requires.border) tt in
     let down = rw (
-      rd w32 (border c.before.before.before.before.before.before.before.before.before.before) tt,
-      rd w32 (rows c.before.before.before.before.before.before.before.before.before.before) tt,
-      rd w32 (high c.before.before.before.before.before.before.before.before.before) tt,
-      rd w32 (row c.before.before.before.before.before.before.before.before.before.before) tt,
+      border,
+      rd w32 (bd c.args.g.mi_rows a.rows_abs) tt,
+      rd w32 (bd c.num_8x8_high.result c.num_8x8_high.ensures.1) tt,
+      rd w32 (bd c.args.g.mi_row a.row_abs) tt,
     ) at c.clamp_part-row.ensures in
     let across = rw (
-      rd w32 (border c.before.before.before.before.before.before.before.before.before.before) tt,
-      rd w32 (cols c.before.before.before.before.before.before.before.before.before.before) tt,
-      rd w32 (wide c.before.before.before.before.before.before.before.before) tt,
-      rd w32 (col c.before.before.before.before.before.before.before.before.before.before) tt,
+      border,
+      rd w32 (bd c.args.g.mi_cols a.cols_abs) tt,
+      rd w32 (bd c.num_8x8_wide.result c.num_8x8_wide.ensures.1) tt,
+      rd w32 (bd c.args.g.mi_col a.col_abs) tt,
     ) at c.clamp_part-col.ensures in
-    rw (← c.num_8x8_high-high.ensures.0, ← c.num_8x8_wide-wide.ensures.0, down, across)
+    rw (← c.num_8x8_high.ensures.0, ← c.num_8x8_wide.ensures.0, down, across)

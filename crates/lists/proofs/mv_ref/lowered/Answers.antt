@@ -3,19 +3,18 @@ use Rattle.base.proofs.Legal.{legal_row, legal_col}
 use Rattle.lists.specs.MvRef.{lowered}
 use Rattle.lists.proofs.mv_ref.lowered.Goals as goal
 
-pub returns-then-allowed-row : goal.returns-then-allowed-row
+pub returns-then-allowed-is_near : goal.returns-then-allowed-is_near
 unfolding lowered
-returns-then-allowed-row c =
-    rw (← c.is_near-row.ensures, ← c.is_near-col.ensures, c.if-allowed-row.true)
+returns-then-allowed-is_near c =
+    rw (← c.is_near.ensures, ← c.is_near-2.ensures, c.if-allowed-is_near.true)
 
-pub evened-down-requires : goal.evened-down-requires
-evened-down-requires c = legal_row c.args.v c.requires
+pub evened-requires : goal.evened-requires
+evened-requires c = legal_row c.args.v c.requires
 
-pub evened-across-requires : goal.evened-across-requires
-evened-across-requires c =
-    legal_col c.args.v c.requires
+pub evened-requires-2 : goal.evened-requires-2
+evened-requires-2 c = legal_col c.args.v c.requires
 
 pub returns : goal.returns
 unfolding lowered
 returns c =
-    rw (← c.is_near-row.ensures, ← c.is_near-col.ensures, c.if-allowed-row.false, c.evened-down.ensures, c.evened-across.ensures)
+    rw (← c.is_near.ensures, ← c.is_near-2.ensures, c.if-allowed-is_near.false, c.evened.ensures, c.evened-2.ensures)

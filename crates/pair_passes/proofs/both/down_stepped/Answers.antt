@@ -1,77 +1,35 @@
 -- `pair_passes::both::down_stepped` meets its contract. The loop keeps up that the first r rows are painted. Assumes nothing.
-use mathlib.Core.Path.{◌≡◌, ◌∙◌}
-use Prim.Native.Nat.{◌+◌, ◌*◌, ◌≤◌}
+use Prim.Native.Nat.{◌*◌, ◌≤◌}
 use native.Mathlib.Nat.{mul-le-mul}
 use native.Mathlib.Omega.{arith}
 use lib.ListN.{length}
-use Rattle.base.proofs.Painted.{fill_same}
-use Rattle.taps.proofs.Loops.{paint_none, paint_turn, one-row}
-use Rattle.planes.proofs.Bands.{holds_row}
+use Rattle.planes.proofs.Fitting.{holds_row}
+use Rattle.passes.proofs.Blocks.{written_turn}
 use Rattle.pair_passes.specs.PairDown.{pair_down}
-use Rattle.pair_passes.proofs.TwoRows.{low_row, one_down}
+use Rattle.pair_passes.proofs.TwoRows.{low_row}
 use Rattle.pair_passes.proofs.both.down_stepped.Goals as goal
-use Rattle.pair_passes.proofs.both.down_stepped.Goals.{In-loop-r}
-
-far : (c : In-loop-r) → c.args.step * c.loop-r.r ≤ 32 * 63
-far c = mul-le-mul {n₂ = 32} {m₂ = 63} (omega arith) (omega arith)
-
-pub loop-r-init : goal.loop-r-init
-loop-r-init c = (omega arith, paint_none _ _ _ _)
-
-pub overflow_mul-q : goal.overflow_mul-q
-overflow_mul-q c = omega (arith, far c)
-
-pub overflow_add-q : goal.overflow_add-q
-overflow_add-q c = omega (arith, far c)
-
-pub overflow_sub-b : goal.overflow_sub-b
-overflow_sub-b c = omega (arith, far c)
-
-pub overflow_mul-b : goal.overflow_mul-b
-overflow_mul-b c = omega (arith, far c)
 
 pub overflow_mul-r : goal.overflow_mul-r
 overflow_mul-r c =
-    let in-out : let a = c.args in
-    c.loop-r.r * a.stride + a.w ≤ length a.out.now = let a = c.args in
-    holds_row a.h a.stride a.w (length a.out.now) c.loop-r.r c.requires.out_value (omega arith) in
-    omega (arith, in-out)
-
-pub rows_low-requires : goal.rows_low-requires
-rows_low-requires c =
-    let far : c.args.step * c.loop-r.r ≤ 32 * 63 = mul-le-mul {n₂ = 32} {m₂ = 63} (omega arith) (omega arith) in
-    let in-out : let a = c.args in
-    c.loop-r.r * a.stride + a.w ≤ length a.out.now = let a = c.args in
-    holds_row a.h a.stride a.w (length a.out.now) c.loop-r.r c.requires.out_value (omega arith) in
     let a = c.args in
-    let r = c.loop-r in
-    let low = low_row a.max a.room.now a.w a.start a.step r.r a.h c.requires.held_room (omega arith) in
-    record {
-      p_bound = omega (arith, c.phase_of.ensures.1, c.requires.start_bound);
-      n_in_bounds = omega (arith, far, in-out, c.requires.start_bound, r.invariant.1.long);
-      low = low;
-    }
+    let in-out = holds_row a.area.height a.stride a.area.width (length a.out.now) c.loop-r.r c.requires.out_value (omega arith) in
+    omega (arith, in-out, c.well_formed)
 
-pub overflow_add-r : goal.overflow_add-r
-overflow_add-r c = omega arith
+pub row_written-requires-clause-bounds : goal.row_written-requires-clause-bounds
+row_written-requires-clause-bounds c =
+    let a = c.args in
+    let far : a.y.step * c.loop-r.r ≤ 32 * 63 = mul-le-mul {n₂ = 32} {m₂ = 63} a.y.slow (omega (arith, c.requires.bounds)) in
+    let in-out = holds_row a.area.height a.stride a.area.width (length a.out.now) c.loop-r.r c.requires.out_value (omega arith) in
+    omega (arith, far, a.area.narrow, a.area.deep, c.requires.bounds, in-out, c.loop-r.invariant.long)
 
-pub loop-r-smaller : goal.loop-r-smaller
-loop-r-smaller c = omega arith
+pub row_written-requires-clause-low : goal.row_written-requires-clause-low
+row_written-requires-clause-low c =
+    let a = c.args in
+    low_row a.area.max a.room.now a.area.width a.y.start a.y.step c.loop-r.r a.area.height c.requires.held_room (omega arith)
 
 pub loop-r-preserved : goal.loop-r-preserved
 unfolding pair_down
 loop-r-preserved c =
-    let l = c.loop-r in
-    let a = c.args in (
-      omega arith,
-      paint_turn l.invariant.1
-          (rw c.phase_of.ensures.0 at c.rows_low.ensures
-          ∙ one-row _ _ _ _ _
-          ∙ fill_same _ _ _ _ _ (λ k kw. one_down a.max _ a.room.now _ k)),
-    )
-
-pub shape_of-out : goal.shape_of-out
-shape_of-out c = c.loop-r.invariant.1.long
-
-pub returns : goal.returns
-returns c = let e : c.loop-r.r ≡ c.args.h = omega arith in rw e at c.loop-r.invariant.1.is
+    let a = c.args in
+    written_turn a.mean (pair_down a.area.max a.room.now a.y.start a.y.step) c.requires.apart c.loop-r.invariant
+    (rw c.of.ensures at c.row_written.ensures)

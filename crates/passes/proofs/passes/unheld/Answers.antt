@@ -5,9 +5,9 @@ use borrow.Author.Tests.{lt-leb, le-leb}
 use Rattle.passes.specs.Lifted.{unheld}
 use Rattle.passes.proofs.passes.unheld.Goals as goal
 
-pub returns-then-b-lt200003 : goal.returns-then-b-lt200003
+pub returns-then-b-lt-ORIGIN : goal.returns-then-b-lt-ORIGIN
 unfolding unheld
-returns-then-b-lt200003 c = rw (lt-leb 200003 c.args.b (omega arith)) refl
+returns-then-b-lt-ORIGIN c = rw (lt-leb 200003 c.args.b (omega arith)) refl
 
 pub returns : goal.returns
 unfolding unheld

@@ -1,5 +1,5 @@
 -- `places::counter_of` meets its contract; what the table holds is small, by one computed test. Assumes nothing.
-use mathlib.Core.Path.{refl, sym}
+use mathlib.Core.Path.{refl, sym, ap, ◌∙◌}
 use Prim.Native.Nat.{ℕ, ◌≤◌}
 use native.Mathlib.Omega.{arith}
 use borrow.Author.Tests.{leb-true}
@@ -14,13 +14,11 @@ low : (mode : ℕ) → get_or counters mode 0 ≤ 9
 unfolding counters
 low mode = leb-true (get_or counters mode 0) 9 (anywhere (λ (x : ℕ). leb x 9) 0 counters refl mode)
 
-pub overflow_cast-result-then-mode-lt14 : goal.overflow_cast-result-then-mode-lt14
-unfolding counters
-overflow_cast-result-then-mode-lt14 c = record { fits = omega (arith, low c.args.mode) }
-
 pub returns-then-mode-lt14 : goal.returns-then-mode-lt14
 unfolding counters
-returns-then-mode-lt14 c = record { is = refl; small = low c.args.mode }
+returns-then-mode-lt14 c =
+    let e = c.from-then-mode-lt14.ensures ∙ ap (λ (m : ℕ). get_or counters m 0) c.from.ensures in
+    record { is = e; small = rw e (low c.args.mode) }
 
 pub returns-else-mode-lt14 : goal.returns-else-mode-lt14
 unfolding counters

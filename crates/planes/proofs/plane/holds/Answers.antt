@@ -2,8 +2,6 @@
 use Prim.Native.Nat.{◌-◌, ◌*◌, ◌≤◌}
 use native.Mathlib.Nat.{mul-le-mul}
 use native.Mathlib.Omega.{arith}
-use borrow.Author.Tests.{lt-ltb, le-ltb}
-use Rattle.planes.specs.Plane.{holds}
 use Rattle.planes.proofs.plane.holds.Goals as goal
 use Rattle.planes.proofs.plane.holds.Goals.{Start as AtStart}
 
@@ -15,11 +13,3 @@ overflow_mul-result c = omega (arith, bound c.before)
 
 pub overflow_add-result : goal.overflow_add-result
 overflow_add-result c = omega (arith, bound c.before)
-
-pub returns-then-rows-gt0 : goal.returns-then-rows-gt0
-unfolding holds
-returns-then-rows-gt0 c = simp (lt-ltb 0 c.args.rows (omega arith))
-
-pub returns-else-rows-gt0 : goal.returns-else-rows-gt0
-unfolding holds
-returns-else-rows-gt0 c = simp (le-ltb 0 c.args.rows (omega arith))

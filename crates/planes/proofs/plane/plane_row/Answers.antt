@@ -2,14 +2,14 @@
 use native.Mathlib.Omega.{arith}
 use borrow.Author.Tests.{lt-ltb, le-ltb}
 use Rattle.planes.specs.Plane.{view, row_of, row_at}
-use Rattle.planes.proofs.Bands.{fits_says}
+use Rattle.planes.proofs.Fitting.{fits_says}
 use Rattle.planes.proofs.plane.plane_row.Goals as goal
 
 pub band_row-requires : goal.band_row-requires
 band_row-requires c =
     let a = c.args in
     let f = fits_says (view a.w a.h a.stride a.k a.upper.now a.lower.now) c.requires.lower_value in
-    record { band_value = f.upper; y_lt_rows = omega arith }
+    record { held = f.upper; inside = omega arith }
 
 pub returns-then-y-k : goal.returns-then-y-k
 unfolding row_of row_at
@@ -22,7 +22,7 @@ pub band_row-requires-2 : goal.band_row-requires-2
 band_row-requires-2 c =
     let a = c.args in
     let f = fits_says (view a.w a.h a.stride a.k a.upper.now a.lower.now) c.requires.lower_value in
-    record { band_value = f.lower; y_lt_rows = omega (arith, c.requires.y_lt_h) }
+    record { held = f.lower; inside = omega (arith, c.requires.y_lt_h) }
 
 pub returns : goal.returns
 unfolding row_of row_at

@@ -6,7 +6,7 @@ use Rattle.reach.proofs.reaching.readable.Goals as goal
 use Rattle.reach.proofs.reaching.readable.Goals.{Start}
 
 near : (s : Start) → Near s.args.from
-near s = starts_near s.args.from s.requires.from_value
+near s = starts_near s.args.from s.requires.started
 
 pub first_read-first_col-requires : goal.first_read-first_col-requires
 first_read-first_col-requires c =
@@ -14,7 +14,10 @@ first_read-first_col-requires c =
 
 pub last_read-last_col-requires : goal.last_read-last_col-requires
 last_read-last_col-requires c =
-    record { start_bound = (near c.before.before.before.before).left; step_bound = omega (arith, (near c.before.before.before.before).across, c.requires.le_w) }
+    record {
+      start_bound = (near c.before.before.before.before).left;
+      step_bound = omega (arith, (near c.before.before.before.before).across, c.requires.sizes);
+    }
 
 pub first_read-first_row-requires : goal.first_read-first_row-requires
 first_read-first_row-requires c =
@@ -24,7 +27,7 @@ pub last_read-last_row-requires : goal.last_read-last_row-requires
 last_read-last_row-requires c =
     record {
       start_bound = (near c.before.before.before.before.before.before.before.before.before).top;
-      step_bound = omega (arith, (near c.before.before.before.before.before.before.before.before.before).down, c.requires.le_w);
+      step_bound = omega (arith, (near c.before.before.before.before.before.before.before.before.before).down, c.requires.sizes);
     }
 
 pub returns : goal.returns

@@ -1,108 +1,56 @@
 -- `reach_inter::reaching::inter_reach` meets its contract: refused by the table, or the rectangle from where the list leads. Assumes nothing.
-use mathlib.Core.Path.{◌≡◌, sym, ap, ◌∙◌}
-use mathlib.Core.List.{[]}
-use Prim.Native.Nat.{ℕ}
+use mathlib.Core.Path.{◌≡◌, ◌∙◌, ap}
+use Prim.Native.Nat.{ℕ, ◌<◌}
 use native.Mathlib.Omega.{arith}
-use borrow.Author.Tests.{ne_eqb}
-use lib.ListN.{get_or}
+use lib.IntN.{ℤ, pos}
+use lib.Signed.{mag}
+use mir.Syntax.{w32}
+use mir.Val.{to_z, of_z}
 use mir.Facts.{to_z-of_z}
-use Rattle.base.specs.Answer.{answer}
+use Rattle.std.proofs.lemmas.Result.{err_from_is_err_and}
 use Rattle.base.specs.Position.{to_n}
 use Rattle.base.proofs.Casts.{read_back}
-use Rattle.vectors.specs.Select.{list_number}
-use Rattle.blocks.specs.declared.block.Stepping.{Stepping}
+use Rattle.selection.proofs.Parts.{list_number-byte}
 use Rattle.planes.specs.declared.plane.PlaneGeom.{PlaneGeom}
-use Rattle.judgement.specs.Whole.{extent, plane_geom, stepping}
-use Rattle.judgement.specs.Chain.{lead}
-use Rattle.judgement.specs.declared.judging.Led.{Led}
-use Rattle.judgement.proofs.Accepted.{leads, starts_taken}
-use Rattle.reach.specs.Rectangle.{readable}
-use Rattle.reach_inter.specs.InterReach.{of_size, inter_rows, inter_reach}
-use Rattle.reach_inter.specs.Chain.{refusal}
-use Rattle.reach_inter.proofs.Joined.{joined}
-use Rattle.reach_inter.proofs.Accepted.{Accepted, accepted}
+use Rattle.judgement.proofs.Leading.{start_is}
+use Rattle.reach_inter.proofs.Accepted.{passed, refused, start_taken, given}
 use Rattle.reach_inter.proofs.reaching.inter_reach.Goals as goal
 
-same : (w h : ℕ) {n n' m m' : ℕ} {s s' : Stepping} → n ≡ n' → m ≡ m' → s ≡ s' → readable w h n m s ≡ readable w h n' m' s'
-same w h e f g = rw (e, f, g)
+-- a side of the plane, read back
+side : (z : ℤ) (k n : ℕ) → mag z < 2147483648 → z ≡ pos k → n ≡ to_n (to_z w32 (of_z w32 z)) → n ≡ k
+side z k n h e d = rw (read_back z h, e) at d
 
-pub returns-then-no-ne0 : goal.returns-then-no-ne0
-unfolding inter_reach
-returns-then-no-ne0 c =
-    let led-is : let x = c.args in
-    c.lead-led.result ≡ lead x.args x.grid x.frame (of_size x.ref_width x.ref_height) (get_or x.mvs (list_number x.second) []) =
-    rw (to_z-of_z c.ranges.ref_width, to_z-of_z c.ranges.ref_height, c.list_number-list.ensures.0) at c.lead-led.ensures in
-    let number : let x = c.args in
-    answer (inter_rows x.args x.grid x.frame x.mvs x.second x.ref_width x.ref_height) ≡ c.refusal-no.result = let x = c.args in
-    sym
-    (c.refusal-no.ensures ∙ ap (refusal x.args) led-is
-    ∙ joined x.args x.grid x.frame x.mvs x.second x.ref_width x.ref_height) in
-    rw (number, ne_eqb _ _ c.if-no-ne0.true)
+pub returns-in_err-allowed : goal.returns-in_err-allowed
+returns-in_err-allowed c =
+    let x = c.args in
+    let led = rw (to_z-of_z c.ranges.ref_width, to_z-of_z c.ranges.ref_height, c.from-list.ensures, list_number-byte c.args.second) at c.lead-led.ensures in
+    let p = err_from_is_err_and c.from_residual.result c.from_residual.ensures.1 in
+    rw (p.1, p.2) (refused x.args x.grid x.frame x.mvs x.second x.ref_width x.ref_height _ led _ c.in_err-allowed.ensures)
 
-pub readable-requires : goal.readable-requires
-readable-requires c =
-    let led-is : let x = c.args in
-    c.lead-led.result ≡ lead x.args x.grid x.frame (of_size x.ref_width x.ref_height) (get_or x.mvs (list_number x.second) []) =
-    rw (to_z-of_z c.ranges.ref_width, to_z-of_z c.ranges.ref_height, c.list_number-list.ensures.0) at c.lead-led.ensures in
-    let number : let x = c.args in
-    answer (inter_rows x.args x.grid x.frame x.mvs x.second x.ref_width x.ref_height) ≡ c.refusal-no.result = let x = c.args in
-    sym
-    (c.refusal-no.ensures ∙ ap (refusal x.args) led-is
-    ∙ joined x.args x.grid x.frame x.mvs x.second x.ref_width x.ref_height) in
-    let zero : let x = c.args in
-    answer (inter_rows x.args x.grid x.frame x.mvs x.second x.ref_width x.ref_height) ≡ 0 = number ∙ c.if-no-ne0.false in
-    let passed : let x = c.args in Accepted x.args x.grid x.frame x.mvs x.second x.ref_width x.ref_height = let x = c.args in
-    accepted x.args x.grid x.frame x.mvs x.second x.ref_width x.ref_height zero in
-    let leads-to : let x = c.args in
-    c.lead-led.result.from
-    ≡ stepping x.args x.grid x.frame x.mvs x.second (of_size x.ref_width x.ref_height) = let x = c.args in
-    ap (λ (e : Led). e.from) led-is
-    ∙ leads x.args x.grid x.frame x.mvs x.second (of_size x.ref_width x.ref_height) passed.look in
-    let plane-is : let x = c.args in
-    c.plane_geom-plane.result ≡ plane_geom x.args x.frame (of_size x.ref_width x.ref_height) =
-    rw (to_z-of_z c.ranges.ref_width, to_z-of_z c.ranges.ref_height) at c.plane_geom-plane.ensures in
-    let wide : let x = c.args in
-    c.natural.result ≡ extent x.args.plane x.frame.subsampling_x x.ref_width = let e =
-    rw (read_back c.plane_geom-plane.result.width (omega (arith, c.struct_told-1.given))) at c.natural.ensures in
-    e ∙ ap (λ (q : PlaneGeom). to_n q.width) plane-is in
-    let high : let x = c.args in
-    c.natural-2.result ≡ extent x.args.plane x.frame.subsampling_y x.ref_height = let e =
-    rw (read_back c.plane_geom-plane.result.height (omega (arith, c.struct_told-2-1.given))) at c.natural-2.ensures in
-    e ∙ ap (λ (q : PlaneGeom). to_n q.height) plane-is in
-    let ok = passed in
-    let a = c.args in
-    let from = starts_taken a.args a.grid a.frame a.mvs a.second (of_size a.ref_width a.ref_height) ok.look in
-    record { le_w = omega (arith, ok.w, ok.h, ok.width, ok.height, wide, high); from_value = rw leads-to from }
+pub readable-requires-clause-sizes : goal.readable-requires-clause-sizes
+readable-requires-clause-sizes c =
+    let x = c.args in
+    let led = rw (to_z-of_z c.ranges.ref_width, to_z-of_z c.ranges.ref_height, c.from-list.ensures, list_number-byte c.args.second) at c.lead-led.ensures in
+    let plane = rw (to_z-of_z c.ranges.ref_width, to_z-of_z c.ranges.ref_height) at c.plane_geom-plane.ensures in
+    let wide = side _ _ _ (omega (arith, c.struct_told-1.given)) (ap (λ (q : PlaneGeom). q.width) plane) c.natural.ensures in
+    let high = side _ _ _ (omega (arith, c.struct_told-2-1.given)) (ap (λ (q : PlaneGeom). q.height) plane) c.natural-2.ensures in
+    let ok = passed x.args x.grid x.frame x.mvs x.second x.ref_width x.ref_height _ led c.in_ok-allowed.ensures in
+    omega (arith, ok.w, ok.h, ok.width, ok.height, wide, high)
+
+pub readable-requires-clause-started : goal.readable-requires-clause-started
+readable-requires-clause-started c =
+    let x = c.args in
+    let led = rw (to_z-of_z c.ranges.ref_width, to_z-of_z c.ranges.ref_height, c.from-list.ensures, list_number-byte c.args.second) at c.lead-led.ensures in
+    start_taken x.args x.grid x.frame x.mvs x.second x.ref_width x.ref_height _ led c.in_ok-allowed.ensures _
+    (start_is _ _ c.unwrap_or_default-from.ensures)
 
 pub returns : goal.returns
-unfolding inter_reach
 returns c =
-    let led-is : let x = c.args in
-    c.lead-led.result ≡ lead x.args x.grid x.frame (of_size x.ref_width x.ref_height) (get_or x.mvs (list_number x.second) []) =
-    rw (to_z-of_z c.ranges.ref_width, to_z-of_z c.ranges.ref_height, c.list_number-list.ensures.0) at c.lead-led.ensures in
-    let number : let x = c.args in
-    answer (inter_rows x.args x.grid x.frame x.mvs x.second x.ref_width x.ref_height) ≡ c.refusal-no.result = let x = c.args in
-    sym
-    (c.refusal-no.ensures ∙ ap (refusal x.args) led-is
-    ∙ joined x.args x.grid x.frame x.mvs x.second x.ref_width x.ref_height) in
-    let zero : let x = c.args in
-    answer (inter_rows x.args x.grid x.frame x.mvs x.second x.ref_width x.ref_height) ≡ 0 = number ∙ c.if-no-ne0.false in
-    let passed : let x = c.args in Accepted x.args x.grid x.frame x.mvs x.second x.ref_width x.ref_height = let x = c.args in
-    accepted x.args x.grid x.frame x.mvs x.second x.ref_width x.ref_height zero in
-    let leads-to : let x = c.args in
-    c.lead-led.result.from
-    ≡ stepping x.args x.grid x.frame x.mvs x.second (of_size x.ref_width x.ref_height) = let x = c.args in
-    ap (λ (e : Led). e.from) led-is
-    ∙ leads x.args x.grid x.frame x.mvs x.second (of_size x.ref_width x.ref_height) passed.look in
-    let plane-is : let x = c.args in
-    c.plane_geom-plane.result ≡ plane_geom x.args x.frame (of_size x.ref_width x.ref_height) =
-    rw (to_z-of_z c.ranges.ref_width, to_z-of_z c.ranges.ref_height) at c.plane_geom-plane.ensures in
-    let wide : let x = c.args in
-    c.natural.result ≡ extent x.args.plane x.frame.subsampling_x x.ref_width = let e =
-    rw (read_back c.plane_geom-plane.result.width (omega (arith, c.struct_told-1.given))) at c.natural.ensures in
-    e ∙ ap (λ (q : PlaneGeom). to_n q.width) plane-is in
-    let high : let x = c.args in
-    c.natural-2.result ≡ extent x.args.plane x.frame.subsampling_y x.ref_height = let e =
-    rw (read_back c.plane_geom-plane.result.height (omega (arith, c.struct_told-2-1.given))) at c.natural-2.ensures in
-    e ∙ ap (λ (q : PlaneGeom). to_n q.height) plane-is in
-    rw zero (c.readable.ensures ∙ same _ _ wide high leads-to)
+    let x = c.args in
+    let led = rw (to_z-of_z c.ranges.ref_width, to_z-of_z c.ranges.ref_height, c.from-list.ensures, list_number-byte c.args.second) at c.lead-led.ensures in
+    let plane = rw (to_z-of_z c.ranges.ref_width, to_z-of_z c.ranges.ref_height) at c.plane_geom-plane.ensures in
+    let wide = side _ _ _ (omega (arith, c.struct_told-1.given)) (ap (λ (q : PlaneGeom). q.width) plane) c.natural.ensures in
+    let high = side _ _ _ (omega (arith, c.struct_told-2-1.given)) (ap (λ (q : PlaneGeom). q.height) plane) c.natural-2.ensures in
+    c.readable.ensures
+    ∙ given x.args x.grid x.frame x.mvs x.second x.ref_width x.ref_height _ led c.in_ok-allowed.ensures _ _ _ wide high
+    (start_is _ _ c.unwrap_or_default-from.ensures)

@@ -1,8 +1,7 @@
 -- `records::legal_parts` meets its contract. Invariant: ok says whether the first j components are legal. Assumes nothing.
-use mathlib.Core.Path.{◌≡◌, refl, ap, ◌∙◌}
+use mathlib.Core.Path.{refl}
 use Prim.Native.Nat.{◌+◌}
 use native.Mathlib.Numerals.{add-one}
-use native.Mathlib.Omega.{arith}
 use lib.IntN.{pos}
 use lib.ListN.{get_or}
 use mir.Syntax.{w16}
@@ -12,18 +11,11 @@ use Rattle.records.proofs.records.legal_parts.Goals as goal
 
 pub loop-j-init : goal.loop-j-init
 unfolding legal_parts
-loop-j-init c = (omega arith, refl)
+loop-j-init c = refl
 
 pub loop-j-preserved : goal.loop-j-preserved
 unfolding legal_parts
 loop-j-preserved c =
-    let a = c.args in
-    let x = get_or a.parts.now (a.from + c.loop-j.j) (pos 0) in
+    let x = get_or c.args.parts.now (c.args.from + c.loop-j.j) (pos 0) in
     let e = to_z-of_z {w = w16} {z = x} (record { sfits = c.legal_part-arg-1.given }) in
-    (omega arith, rw (add-one, ← c.loop-j.invariant.1, c.legal_part-ok.ensures, e))
-
-pub returns : goal.returns
-returns c =
-    let a = c.args in
-    let end : c.loop-j.j ≡ a.n = omega arith in
-    c.loop-j.invariant.1 ∙ ap (legal_parts a.parts.now a.from) end
+    rw (add-one, ← c.loop-j.invariant, c.legal_part-ok.ensures, e)

@@ -1,5 +1,5 @@
 -- `records::legal_place` meets its contract: the cell of a place is a cell of the frame. Assumes nothing.
-use mathlib.Core.Path.{sym, ◌∙◌}
+use mathlib.Core.Path.{sym}
 use native.Mathlib.Omega.{arith}
 use Rattle.records.specs.Records.{legal_spot}
 use Rattle.records.proofs.Grid.{spot_in}
@@ -7,14 +7,13 @@ use Rattle.records.proofs.records.legal_place.Goals as goal
 
 pub legal_record-requires : goal.legal_record-requires
 legal_record-requires c =
-    let below = spot_in c.args.g c.args.k c.in-Cell.i c.requires.g_value.0 (sym c.spot_of-s.ensures ∙ c.in-Cell.is) in
+    let below = spot_in c.args.site.geometry c.args.k c.in-Some.i c.args.site.grid (sym c.in-Some.ensures) in
     omega arith
 
-pub returns-in-Out : goal.returns-in-Out
+pub returns-in-None : goal.returns-in-None
 unfolding legal_spot
-returns-in-Out c = rw (← c.spot_of-s.ensures, c.in-Out.is)
+returns-in-None c = rw (← c.in-None.ensures)
 
-pub returns-in-Cell : goal.returns-in-Cell
+pub returns-in-Some : goal.returns-in-Some
 unfolding legal_spot
-returns-in-Cell c =
-    rw (← c.spot_of-s.ensures, c.in-Cell.is) c.legal_record.ensures
+returns-in-Some c = rw (← c.in-Some.ensures) c.legal_record.ensures

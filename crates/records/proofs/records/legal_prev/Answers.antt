@@ -7,15 +7,14 @@ use Rattle.records.proofs.records.legal_prev.Goals as goal
 pub legal_pair-requires : goal.legal_pair-requires
 unfolding PrevRoom
 legal_pair-requires c =
-    let below = own_in c.args.g c.requires.g_value in
-    let pairs = c.requires.prev_room c.if-use_prev.true in
-    omega (arith, c.own.ensures, below, pairs.frames, pairs.mvs)
+    let below = own_in c.args.site.geometry c.args.site.grid in
+    let room = c.requires c.in-Some.pairs c.in-Some.is in
+    omega (arith, c.own.ensures)
 
-pub returns-then-use_prev : goal.returns-then-use_prev
+pub returns-in-None : goal.returns-in-None
 unfolding legal_prev
-returns-then-use_prev c =
-    rw (c.if-use_prev.true, ← c.own.ensures) c.legal_pair.ensures
+returns-in-None c = rw c.in-None.is
 
-pub returns-else-use_prev : goal.returns-else-use_prev
+pub returns-in-Some : goal.returns-in-Some
 unfolding legal_prev
-returns-else-use_prev c = rw c.if-use_prev.false
+returns-in-Some c = rw (c.in-Some.is, ← c.own.ensures) c.legal_pair.ensures

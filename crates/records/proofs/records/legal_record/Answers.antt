@@ -4,4 +4,4 @@ use Rattle.records.proofs.records.legal_record.Goals as goal
 
 pub returns : goal.returns
 unfolding legal_record
-returns c = rw (c.legal_pair.ensures, c.legal_parts.ensures)
+returns c = rw (c.legal_pair.ensures, c.legal_parts.ensures, c.pairs.ensures)

@@ -10,6 +10,6 @@ pub returns : goal.returns
 unfolding legal16
 returns c =
     let v = c.args.v in
-    let row : SFits w32 v.row.0 = record { sfits = omega (arith, c.struct_told-1.given) } in
-    let col : SFits w32 v.col.0 = record { sfits = omega (arith, c.struct_told-2-1.given) } in
+    let row : SFits w32 v.row.0 = record { sfits = omega arith } in
+    let col : SFits w32 v.col.0 = record { sfits = omega arith } in
     rw (rw (to_z-of_z row) at c.between.ensures, rw (to_z-of_z col) at c.between-2.ensures)

@@ -1,6 +1,5 @@
 -- `start_axis` meets its contract: an accepted call's numbers are small enough for each step. Assumes nothing.
 use mathlib.Core.Path.{◌≡◌}
-use Prim.Native.Nat.{◌≤◌}
 use Rattle.base.specs.Position.{to_n}
 use mir.Syntax.{w32}
 use mir.Facts.{to_z-of_z}
@@ -11,7 +10,7 @@ use Rattle.scaling.proofs.scale.start_axis.Goals as goal
 use Rattle.scaling.proofs.scale.start_axis.Goals.{After-natural, After-natural-2, After-natural-at, Start}
 
 sizes : (s : Start) → Sizes (to_n s.args.reference) (to_n s.args.frame)
-sizes s = usable_sizes s.args.reference s.args.frame s.requires.frame_value.0
+sizes s = usable_sizes s.args.reference s.args.frame s.requires.accepted.0
 
 reference-is : (c : After-natural) → c.natural.result ≡ to_n c.args.reference
 reference-is c = rw (to_z-of_z c.ranges.reference) at c.natural.ensures
@@ -26,7 +25,7 @@ scale-is : (c : After-natural-at) → c.scale_of-scale.result ≡ scale_of (to_n
 scale-is c = cc (c.scale_of-scale.ensures.0, reference-is c.before.before.before, frame_is c.before.before)
 
 vector : (s : Start) → Bd 65534 s.args.v.0
-vector s = bd s.args.v.0 s.requires.v_bound
+vector s = bd s.args.v.0 s.requires.vector
 
 pub scale_of-scale-requires : goal.scale_of-scale-requires
 scale_of-scale-requires c =
@@ -34,13 +33,10 @@ scale_of-scale-requires c =
     rw (reference-is c.before, frame_is c) (z.small, (z.frame-low, z.double))
 
 pub luma_of-requires : goal.luma_of-requires
-luma_of-requires c = rw (x-is c) (placed_small c.args.x c.requires.frame_value.1)
+luma_of-requires c = rw (x-is c) (placed_small c.args.x c.requires.accepted.1)
 
-pub start_of-requires : goal.start_of-requires
-start_of-requires c =
-    let at : c.natural-at.result ≤ 65535 = rw (x-is c.before.before.before) (placed_small c.args.x c.requires.frame_value.1) in
-    rw (rd w32 (vector c.before.before.before.before.before.before.before) tt)
-    (record { x_bound = (at, c.luma_of.ensures.1); scale_bound = (c.scale_of-scale.ensures.1, c.requires.v_bound) })
+pub start_of-requires-clause-place : goal.start_of-requires-clause-place
+start_of-requires-clause-place c = (rw (x-is c.before.before.before) (placed_small c.args.x c.requires.accepted.1), c.luma_of.ensures.1)
 
 pub returns : goal.returns
 unfolding start_axis

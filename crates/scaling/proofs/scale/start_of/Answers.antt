@@ -9,62 +9,42 @@ use mir.Val.{to_z, of_z, hbits}
 use mir.Facts.{to_z-of_z, to_z_pos}
 use Rattle.base.proofs.Bd.{Bd, bd, ◌⊕◌, fits, rd}
 use Rattle.scaling.specs.Scale.{start_of}
-use Rattle.scaling.proofs.Scaled.{scaled_le, at_bd, frac_bd, product_bd, moved_bd}
+use Rattle.scaling.proofs.Scaled.{at_bd, frac_bd, product_bd, moved_bd}
 use Rattle.scaling.proofs.scale.start_of.Goals as goal
-use Rattle.scaling.proofs.scale.start_of.Goals.{After-wide, Start}
+use Rattle.scaling.proofs.scale.start_of.Goals.{After-from, Start}
 
 at : (s : Start) → Bd 2097120 (pos (s.args.x * s.args.scale / 16384 * 16))
-at s = at_bd s.args.x s.args.scale s.requires.x_bound.0 s.requires.scale_bound.0
+at s = at_bd s.args.x s.args.scale s.requires.place.0 s.requires.moved.0
 
 product : (s : Start) → Bd 2147418112 (s.args.v *ℤ pos s.args.scale)
-product s = product_bd s.args.v s.args.scale s.requires.scale_bound.1 s.requires.scale_bound.0
+product s = product_bd s.args.v s.args.scale s.requires.moved.1 s.requires.moved.0
 
 moved : (s : Start) → Bd 131069 (shr_z (s.args.v *ℤ pos s.args.scale) 16384)
-moved s = moved_bd s.args.v s.args.scale s.requires.scale_bound.1 s.requires.scale_bound.0
+moved s = moved_bd s.args.v s.args.scale s.requires.moved.1 s.requires.moved.0
 
-frac : (c : After-wide) → Bd 15 (pos c.frac_of-frac.result)
+frac : (c : After-from) → Bd 15 (pos c.frac_of-frac.result)
 frac c = frac_bd c.frac_of-frac.result c.frac_of-frac.ensures.1
 
 -- what stands in each local, read as the number that was put there
 small : (s : Start) → s.args.scale < 2 ^ hbits w64
 small s = omega arith
 
-wide_is : (c : After-wide) → to_z w64 (of_z w64 c.wide.result) ≡ c.args.v
+wide_is : (c : After-from) → to_z w64 (of_z w64 c.from.result) ≡ c.args.v
 wide_is c =
-    let e = rw (to_z-of_z c.ranges.v) at c.wide.ensures in
-    let b : Bd 65534 c.args.v = bd c.args.v c.requires.scale_bound.1 in
+    let e = rw (to_z-of_z c.ranges.v) at c.from.ensures in
+    let b : Bd 65534 c.args.v = bd c.args.v c.requires.moved.1 in
     rw (e, rd w64 b tt)
 
-moved-read : (c : After-wide)
-    → to_z w64 (of_z w64 (shr_z (to_z w64 (of_z w64 (to_z w64 (of_z w64 c.wide.result) *ℤ to_z w64 c.args.scale))) 16384))
+moved-read : (c : After-from)
+    → to_z w64 (of_z w64 (shr_z (to_z w64 (of_z w64 (to_z w64 (of_z w64 c.from.result) *ℤ to_z w64 c.args.scale))) 16384))
     ≡ shr_z (c.args.v *ℤ pos c.args.scale) 16384
 moved-read c = rw (wide_is c, to_z_pos w64 (small c.before.before), rd w64 (product c.before.before) tt, rd w64 (moved c.before.before) tt)
 
-frac-read : (c : After-wide) → to_z w64 c.frac_of-frac.result ≡ pos c.frac_of-frac.result
+frac-read : (c : After-from) → to_z w64 c.frac_of-frac.result ≡ pos c.frac_of-frac.result
 frac-read c = let h = c.frac_of-frac.ensures.1 in to_z_pos w64 (omega arith)
 
 at_read : (s : Start) → to_z w64 (s.args.x * s.args.scale / 16384 * 16) ≡ pos (s.args.x * s.args.scale / 16384 * 16)
 at_read s = let h = (at s).le in to_z_pos w64 (omega arith)
-
-pub overflow_mul-at : goal.overflow_mul-at
-overflow_mul-at c = record { fits = omega (arith, scaled_le c.requires.x_bound.0 c.requires.scale_bound.0) }
-
-pub overflow_mul-at-2 : goal.overflow_mul-at-2
-overflow_mul-at-2 c = record { fits = omega (arith, scaled_le c.requires.x_bound.0 c.requires.scale_bound.0) }
-
-pub overflow_cast-at : goal.overflow_cast-at
-overflow_cast-at c = fits (at c) tt
-
-pub overflow_mul-moved : goal.overflow_mul-moved
-overflow_mul-moved c = rw (wide_is c, to_z_pos w64 (small c.before.before)) (fits (product c.before.before) tt)
-
-pub overflow_add-result : goal.overflow_add-result
-overflow_add-result c = rw (moved-read c, frac-read c) (fits (moved c.before.before ⊕ frac c) tt)
-
-pub overflow_add-result-2 : goal.overflow_add-result-2
-overflow_add-result-2 c =
-    rw (moved-read c, frac-read c, rd w64 (moved c.before.before ⊕ frac c) tt, at_read c.before.before)
-    (fits (at c.before.before ⊕ (moved c.before.before ⊕ frac c)) tt)
 
 pub overflow_cast-result : goal.overflow_cast-result
 overflow_cast-result c =

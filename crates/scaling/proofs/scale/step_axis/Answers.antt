@@ -27,12 +27,6 @@ scale_of-scale-requires c =
     let z = sizes c.before.before in
     rw (reference-is c.before, frame_is c) (z.small, (z.frame-low, z.double))
 
-pub overflow_mul-result : goal.overflow_mul-result
-overflow_mul-result c = record { fits = omega (arith, c.scale_of-scale.ensures.1) }
-
-pub overflow_cast-result : goal.overflow_cast-result
-overflow_cast-result c = record { sfits = omega (arith, c.scale_of-scale.ensures.1) }
-
 pub returns : goal.returns
 unfolding step_axis step_of
 returns c =

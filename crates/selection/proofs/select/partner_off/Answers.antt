@@ -3,18 +3,18 @@ use native.Mathlib.Omega.{arith}
 use Rattle.selection.specs.Select.{partner_off}
 use Rattle.selection.proofs.select.partner_off.Goals as goal
 
-pub returns-then-sy : goal.returns-then-sy
+pub returns-in-true-false : goal.returns-in-true-false
 unfolding partner_off
-returns-then-sy c = (rw (c.if-sx.true, c.if-sy.true), omega arith)
+returns-in-true-false c = (rw (c.in-true-false.is-0, c.in-true-false.is-1), omega arith)
 
-pub returns-else-sy : goal.returns-else-sy
+pub returns-in-false-true : goal.returns-in-false-true
 unfolding partner_off
-returns-else-sy c = (rw (c.if-sx.true, c.if-sy.false), omega arith)
+returns-in-false-true c = (rw (c.in-false-true.is-0, c.in-false-true.is-1), omega arith)
 
-pub returns-then-sy-2 : goal.returns-then-sy-2
+pub returns-in_default : goal.returns-in_default
 unfolding partner_off
-returns-then-sy-2 c = (rw (c.if-sx.false, c.if-sy-2.true), omega arith)
+returns-in_default c = (rw (c.in_default.is-0, c.in_default.is-1), omega arith)
 
-pub returns-else-sy-2 : goal.returns-else-sy-2
+pub returns-in_default-2 : goal.returns-in_default-2
 unfolding partner_off
-returns-else-sy-2 c = (rw (c.if-sx.false, c.if-sy-2.false), omega arith)
+returns-in_default-2 c = (rw (c.in_default.is-0, c.in_default.is-1), omega arith)

@@ -4,4 +4,4 @@ use Rattle.selection.proofs.select.partnered.Goals as goal
 
 pub returns : goal.returns
 unfolding partnered
-returns c = rw (c.own_vector-whole.ensures, c.partner_off-far.ensures.0)
+returns c = rw (c.own_vector.ensures, c.partner_off.ensures.0)

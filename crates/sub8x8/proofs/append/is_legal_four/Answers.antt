@@ -4,14 +4,4 @@ use Rattle.sub8x8.proofs.append.is_legal_four.Goals as goal
 
 pub returns : goal.returns
 unfolding legal_four
-returns c =
-    rw (
-      c.is_legal_mv-a.ensures,
-      c.is_legal_mv-b.ensures,
-      c.is_legal_mv-c.ensures,
-      c.is_legal_mv-d.ensures,
-      c.sub_mv.ensures,
-      c.sub_mv-2.ensures,
-      c.sub_mv-3.ensures,
-      c.sub_mv-4.ensures,
-    )
+returns c = rw (c.is_legal_mv-a.ensures, c.is_legal_mv-b.ensures, c.is_legal_mv-c.ensures, c.is_legal_mv-d.ensures)

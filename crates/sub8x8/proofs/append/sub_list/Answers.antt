@@ -5,14 +5,13 @@ use mathlib.Core.List.{List, [], ◌∷◌}
 use Prim.Native.Nat.{ℕ}
 use borrow.Author.Tests.{eq-eqb, ne_eqb}
 use lib.Dec.{leb}
-use Rattle.base.specs.declared.units.Eighth.{Eighth}
 use Rattle.base.specs.declared.units.Mv.{Mv}
 use Rattle.candidates.specs.Offers.{none, offers}
 use Rattle.lists.specs.MvRef.{sub_mv, before, sub_list}
 use Rattle.sub8x8.proofs.append.sub_list.Goals as goal
 
 -- the search's pair is offered after the block's own vectors
-more : (block : ℕ) (m : List (List Eighth)) (pair : List Mv) → offers (offers none (before block m [])) pair ≡ offers none (before block m pair)
+more : (block : ℕ) (m : List Mv) (pair : List Mv) → offers (offers none (before block m [])) pair ≡ offers none (before block m pair)
 unfolding before offers
 more block m pair = by-test (leb block 2)
   where

@@ -6,4 +6,13 @@ use Rattle.sums.proofs.sums.joined.Goals as goal
 pub returns : goal.returns
 unfolding joined_sums
 returns c =
-    c.lesser.ensures ∙ rw (c.lessened.ensures, c.topped-2.ensures, c.topped.ensures, c.lessened-u.ensures)
+    c.lesser.ensures
+    ∙ rw (
+      c.saturating_sub.ensures,
+      c.saturating_add-sum.ensures,
+      c.saturating_add.ensures,
+      c.saturating_sub-u.ensures,
+      c.from.ensures,
+      c.from-2.ensures,
+      c.from-3.ensures,
+    )

@@ -2,7 +2,7 @@
 use mathlib.Core.Path.{◌≡◌, refl, sym, ap, ◌∙◌}
 use mathlib.Core.Bool.{true}
 use mathlib.Core.List.{List, []}
-use Prim.Native.Nat.{ℕ, suc, ◌+◌, ◌-◌, ◌≤◌}
+use Prim.Native.Nat.{ℕ, suc, ◌+◌, ◌-◌, ◌<◌, ◌≤◌}
 use native.Mathlib.Omega.{arith}
 use borrow.Author.Tests.{leb-true, le-ltb}
 use lib.Dec.{leb}
@@ -13,57 +13,55 @@ use mir.Val.{SFits}
 use Rattle.base.specs.Number.{between}
 use Rattle.base.proofs.Bd.{bd, fits}
 use Rattle.base.proofs.Tests.{and_left}
-use Rattle.taps.specs.Taps.{tap}
 use Rattle.base.proofs.Casts.{sum_fits, lift_casts, lift_gives}
+use Rattle.taps.specs.Taps.{filters, tap}
 use Rattle.taps.proofs.TapRules.{tap_range}
 use Rattle.taps.proofs.taps.raised.Goals as goal
 
+-- z is a tap of the machine, and n with 24 added
 record Up (z : ℤ) : Type 0 where
   n : ℕ
   is : z +ℤ pos 24 ≡ pos n
   le : n ≤ 152
-  small : nat_abs z ≤ 128
+  held : SFits w16 z
 
 up : (z : ℤ) → between (negsuc 23) (pos 128) z ≡ true → Up z
 unfolding between
-up (pos n) e = let h : n ≤ 128 = leb-true n 128 e in record { n = n + 24; is = refl; le = omega arith; small = h }
+up (pos n) e =
+    let h : n ≤ 128 = leb-true n 128 e in
+    record { n = n + 24; is = refl; le = omega arith; held = fits (bd (pos n) h) tt }
 up (negsuc n) e =
     let h : n ≤ 23 = leb-true n 23 (and_left (leb n 23) true e) in
-    record { n = 24 - suc n; is = simp (le-ltb 24 (suc n) (omega arith)); le = omega arith; small = omega arith }
+    let small : nat_abs (negsuc n) ≤ 128 = omega arith in
+    record { n = 24 - suc n; is = simp (le-ltb 24 (suc n) (omega arith)); le = omega arith; held = fits (bd (negsuc n) small) tt }
+
+-- what stands in the table is the tap
+module _ (table : List (List (List ℤ))) (filter phase t : ℕ) (is : table ≡ filters) where
+  abbrev elem : ℤ
+  elem = get_or (get_or (get_or table filter []) phase []) t (pos 0)
+
+  here : elem ≡ tap filter phase t
+  unfolding tap
+  here = ap (λ (l : List (List (List ℤ))). get_or (get_or (get_or l filter []) phase []) t (pos 0)) is
+
+  lifted : (filter < 4) × (phase < 16) × (t < 8) → Up elem
+  lifted b = up elem (rw here (tap_range filter phase b.0 b.1 t b.2))
 
 pub overflow_add-result : goal.overflow_add-result
-unfolding tap
 overflow_add-result c =
-    let elem : ℤ = get_or (get_or c.args.rows.now c.args.phase []) c.args.t (pos 0) in
-    let here : elem ≡ tap c.args.filter c.args.phase c.args.t =
-    ap (λ (l : List (List ℤ)). get_or (get_or l c.args.phase []) c.args.t (pos 0)) c.requires.rows_value in
-    let lift : Up elem = let a = c.args in
-    up elem (rw here (tap_range a.filter a.phase c.requires.filter_bound.0 c.requires.filter_bound.1 a.t c.requires.filter_bound.2)) in
-    let elem_fits : SFits w16 elem = fits (bd elem lift.small) tt in
-    let u = lift in
-    sum_fits w16 w16 elem 24 u.n elem_fits u.is (omega (arith, u.le))
+    let a = c.args in
+    let u = lifted _ a.filter a.phase a.t c.subpel_table.ensures c.requires in
+    sum_fits w16 w16 _ 24 u.n u.held u.is (omega (arith, u.le))
 
 pub overflow_cast-result : goal.overflow_cast-result
-unfolding tap
 overflow_cast-result c =
-    let elem : ℤ = get_or (get_or c.args.rows.now c.args.phase []) c.args.t (pos 0) in
-    let here : elem ≡ tap c.args.filter c.args.phase c.args.t =
-    ap (λ (l : List (List ℤ)). get_or (get_or l c.args.phase []) c.args.t (pos 0)) c.requires.rows_value in
-    let lift : Up elem = let a = c.args in
-    up elem (rw here (tap_range a.filter a.phase c.requires.filter_bound.0 c.requires.filter_bound.1 a.t c.requires.filter_bound.2)) in
-    let elem_fits : SFits w16 elem = fits (bd elem lift.small) tt in
-    let u = lift in
-    lift_casts w16 w16 elem 24 u.n elem_fits u.is (omega (arith, u.le)) (omega (arith, u.le))
+    let a = c.args in
+    let u = lifted _ a.filter a.phase a.t c.subpel_table.ensures c.requires in
+    lift_casts w16 w16 _ 24 u.n u.held u.is (omega (arith, u.le)) (omega (arith, u.le))
 
 pub returns : goal.returns
-unfolding tap
 returns c =
-    let elem : ℤ = get_or (get_or c.args.rows.now c.args.phase []) c.args.t (pos 0) in
-    let here : elem ≡ tap c.args.filter c.args.phase c.args.t =
-    ap (λ (l : List (List ℤ)). get_or (get_or l c.args.phase []) c.args.t (pos 0)) c.requires.rows_value in
-    let lift : Up elem = let a = c.args in
-    up elem (rw here (tap_range a.filter a.phase c.requires.filter_bound.0 c.requires.filter_bound.1 a.t c.requires.filter_bound.2)) in
-    let elem_fits : SFits w16 elem = fits (bd elem lift.small) tt in
-    let u = lift in
-    let e = lift_gives w16 w16 elem 24 u.n elem_fits u.is (omega (arith, u.le)) in
-    rw e (record { is = sym u.is ∙ ap (λ (z : ℤ). z +ℤ pos 24) here; le = u.le })
+    let a = c.args in
+    let u = lifted _ a.filter a.phase a.t c.subpel_table.ensures c.requires in
+    let e = lift_gives w16 w16 _ 24 u.n u.held u.is (omega (arith, u.le)) in
+    rw e (record { is = sym u.is ∙ ap (λ (z : ℤ). z +ℤ pos 24) (here _ _ _ _ c.subpel_table.ensures); le = u.le })

@@ -1,37 +1,29 @@
 -- `select_mv` meets its contract: refused by the table, or the chosen vector. Assumes nothing.
-use mathlib.Core.Path.{◌≡◌, sym, ap, ◌∙◌}
-use Prim.Native.Nat.{ℕ}
-use borrow.Author.Tests.{ne_eqb}
-use Rattle.base.specs.Answer.{answer}
-use Rattle.base.specs.declared.units.Mv.{Mv}
-use Rattle.vectors.specs.Select.{select_mv, select_rows, chosen}
-use Rattle.vectors.specs.declared.inter_mv.SelectedMv.{SelectedMv}
-use Rattle.vectors.proofs.Accepted.{SelectOk, select_ok}
-use Rattle.selection.proofs.Parts.{legal-list, list_number_small}
+use mathlib.Core.Path.{◌≡◌, sym, ◌∙◌}
+use Rattle.std.proofs.lemmas.Result.{err_from_is_err_and}
+use Rattle.base.proofs.Numbered.{not_zero}
+use Rattle.vectors.specs.Select.{select_mv, list_number}
+use Rattle.vectors.proofs.Accepted.{select_ok}
+use Rattle.selection.proofs.Parts.{legal-list, list_number-byte, list_number_small}
 use Rattle.vectors.proofs.inter_mv.select_mv.Goals as goal
+use Rattle.vectors.proofs.inter_mv.select_mv.Goals.{After-from-list}
 
--- equal vectors make equal results
-same : {v w : Mv} → v ≡ w → ◌≡◌ {A = SelectedMv} (record { answer = 0; mv = v }) (record { answer = 0; mv = w })
-same e = rw e
-
-pub returns-then-no-ne0 : goal.returns-then-no-ne0
+pub returns-in_err-select_allowed : goal.returns-in_err-select_allowed
 unfolding select_mv
-returns-then-no-ne0 c = let e = sym c.select_refusal-no.ensures in rw (e, ne_eqb _ _ c.if-no-ne0.true)
+returns-in_err-select_allowed c =
+    let p = err_from_is_err_and c.from_residual.result c.from_residual.ensures.1 in
+    rw (p.1, p.2, ← c.in_err-select_allowed.ensures, not_zero c.in_err-select_allowed.field-0.0)
 
-pub chosen-mv-requires : goal.chosen-mv-requires
-chosen-mv-requires c =
-    let zero : let x = c.args in answer (select_rows x.mvs x.plane x.size x.block x.sx x.sy) ≡ 0 = sym c.select_refusal-no.ensures ∙ c.if-no-ne0.false in
-    let accepted : let x = c.args in SelectOk x.mvs x.plane x.size x.block x.sx x.sy = let x = c.args in
-    select_ok x.mvs x.plane x.size x.block x.sx x.sy zero in
+list-is : (c : After-from-list) → c.from-list.result ≡ list_number c.args.second
+list-is c = c.from-list.ensures ∙ list_number-byte c.args.second
+
+pub chosen-vector-requires : goal.chosen-vector-requires
+chosen-vector-requires c =
     let x = c.args in
-    let a = accepted in
-    rw c.list_number-list.ensures.0
-    (record { list_bound = (list_number_small x.second, a.block); sy_value = a.partner; list_value = legal-list x.mvs a.vectors x.second })
+    let a = select_ok x.mvs x.plane x.size x.block x.sx x.sy (sym c.in_ok-select_allowed.ensures) in
+    rw (list-is c)
+    (record { within = (list_number_small x.second, a.block); partner = a.partner; legal = legal-list x.mvs a.vectors x.second })
 
 pub returns : goal.returns
 unfolding select_mv
-returns c =
-    let zero : let x = c.args in answer (select_rows x.mvs x.plane x.size x.block x.sx x.sy) ≡ 0 = sym c.select_refusal-no.ensures ∙ c.if-no-ne0.false in
-    let x = c.args in
-    let list = ap (λ (l : ℕ). chosen x.mvs l x.plane x.size x.block x.sx x.sy) c.list_number-list.ensures.0 in
-    rw zero (same (c.chosen-mv.ensures ∙ list))
+returns c = rw (← c.in_ok-select_allowed.ensures, rw (list-is c.before) at c.chosen-vector.ensures)

@@ -1,0 +1,10 @@
+-- `lanes::lanes::narrow` meets its contract: the first w of each eight. Assumes nothing.
+use mathlib.Core.Path.{◌∙◌}
+use native.Mathlib.Omega.{arith}
+use Rattle.taps.proofs.Loops.{rows_kept}
+use Rattle.lanes.proofs.lanes.narrow.Goals as goal
+
+pub returns : goal.returns
+returns g c =
+    let a = c.args in
+    rw c.rows_low.ensures at c.rows_first.ensures ∙ rows_kept _ a.out.now a.w a.h a.at a.stride _ (omega arith) (omega arith)

@@ -1,0 +1,17 @@
+-- `best_allowed` meets its contract: the code asks the rows of the table in their order. Assumes nothing.
+use mathlib.Core.Path.{sym, ◌∙◌}
+use Rattle.base.proofs.Rows.{last, past, left, handed}
+use Rattle.lists.proofs.mv_ref.best_allowed.Goals as goal
+
+pub returns-in_err-unless : goal.returns-in_err-unless
+returns-in_err-unless c = handed _ _ c.from_residual.ensures.1 ∙ left _ _ _ _ (sym c.in_err-unless.ensures)
+
+pub returns-in_err-unless-2 : goal.returns-in_err-unless-2
+returns-in_err-unless-2 c =
+    let e = rw c.grid_ok.ensures at c.in_err-unless-2.ensures in
+    handed _ _ c.from_residual-in_err-unless-2.ensures.1 ∙ left _ _ _ _ (sym e) ∙ past _ _ _ (sym c.in_ok-unless.ensures)
+
+pub returns : goal.returns
+returns c =
+    let e = rw c.grid_ok.ensures at c.in_ok-unless-2.ensures in
+    rw (c.unless-3.ensures, c.is_legal_mv.ensures, c.is_legal_mv-2.ensures) (last _ _ ∙ past _ _ _ (sym e) ∙ past _ _ _ (sym c.in_ok-unless.ensures))

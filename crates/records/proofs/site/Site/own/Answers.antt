@@ -1,0 +1,16 @@
+-- `Site::own` meets its contract, which is `cell_at`'s at the block's own row and column. Assumes nothing.
+use borrow.Author.Rules.{rules}
+use Rattle.records.proofs.Fit.{Fit, back}
+use Rattle.records.proofs.Grid.{own_placed}
+use Rattle.records.proofs.site.Site.own.Goals as goal
+
+pub cell_at-requires : goal.cell_at-requires
+cell_at-requires c =
+    let g = c.args.self.geometry in
+    let f : Fit g = search rules in
+    rw (back f.row, back f.col) (own_placed g c.args.self.grid)
+
+pub returns : goal.returns
+returns c =
+    let f : Fit c.args.self.geometry = search rules in
+    rw (back f.row, back f.col) at c.cell_at.ensures
