@@ -1,5 +1,5 @@
 // Where a block and its neighbours stand, in cells of 8 by 8 luma samples.
-ghost use Rattle.std.specs.Prelude.{◌≡◌};
+ghost use Rattle.std.specs.Prelude.{true, ◌≡◌};
 ghost use Rattle.records.specs.Tables as Tables;
 ghost use Rattle.records.specs.Lent.{Placed};
 
@@ -41,4 +41,12 @@ pub(crate) fn cell_at(g: MvRefGeometry, row: i32, col: i32) -> usize
     ensures { result ≡ Tables.cell_at g row col }
 {
     base::natural(row) * base::natural(g.mi_cols) + base::natural(col)
+}
+
+// The block's own cell.
+pub fn own(g: MvRefGeometry) -> usize
+    requires { Tables.grid_ok g ≡ true }
+    ensures { result ≡ Tables.own g }
+{
+    cell_at(g, g.mi_row, g.mi_col)
 }

@@ -6,7 +6,7 @@ mod records;
 mod site;
 mod tables;
 
-pub use geometry::{MvRefGeometry, grid_ok};
+pub use geometry::{MvRefGeometry, grid_ok, own};
 pub use records::{legal_records, long_enough};
 pub use site::Site;
 pub use tables::{LentTables, Pairs};

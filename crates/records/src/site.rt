@@ -3,7 +3,7 @@ ghost use Rattle.std.specs.Prelude.{true, [], ◌≡◌, ◌≤◌, ◌<◌, get
 ghost use Rattle.places.specs.Places as Places;
 ghost use Rattle.records.specs.Tables as Tables;
 
-use crate::geometry::{MvRefGeometry, cell_at, inside};
+use crate::geometry::{MvRefGeometry, cell_at, inside, own};
 
 // Built where the geometry is judged, so that no function that takes it asks again.
 #[derive(Clone, Copy)]
@@ -29,7 +29,7 @@ impl Site {
     pub fn own(self) -> usize
         ensures { result ≡ Tables.own self.geometry }
     {
-        cell_at(self.geometry, self.geometry.mi_row, self.geometry.mi_col)
+        own(self.geometry)
     }
 
     // The cell of a row and a column, if it is inside.
