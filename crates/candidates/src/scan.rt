@@ -34,9 +34,9 @@ fn covered(pairs: Pairs, i: usize, ask: Ask) -> bool
     ensures { result ≡ Scan.covered pairs.entry.frames.now pairs.entry.mvs.now ask i }
 {
     if ask.other {
-        pairs.mv_at(i, 0) == pairs.mv_at(i, 1)
+        records::mv_at(pairs.mvs, i, 0) == records::mv_at(pairs.mvs, i, 1)
     } else {
-        pairs.frame_at(i, 0) == ask.target
+        records::frame_at(pairs.frames, i, 0) == ask.target
     }
 }
 
@@ -45,7 +45,7 @@ fn asked(pairs: Pairs, i: usize, list: usize, ask: Ask) -> bool
     requires list { list < 2 }
     ensures { result ≡ Scan.asked pairs.entry.frames.now pairs.entry.mvs.now ask i list }
 {
-    if suits(ask, pairs.frame_at(i, list)) {
+    if suits(ask, records::frame_at(pairs.frames, i, list)) {
         if list == 1 {
             !covered(pairs, i, ask)
         } else {
@@ -92,7 +92,11 @@ fn offered(pairs: Pairs, i: usize, list: usize, ask: Ask) -> Mv
     requires list { list < 2 }
     ensures { result ≡ Scan.offered pairs.entry.frames.now pairs.entry.mvs.now ask i list }
 {
-    turned(ask, pairs.frame_at(i, list), pairs.mv_at(i, list))
+    turned(
+        ask,
+        records::frame_at(pairs.frames, i, list),
+        records::mv_at(pairs.mvs, i, list),
+    )
 }
 
 #[inline(always)]

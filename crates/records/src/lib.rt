@@ -9,4 +9,4 @@ mod tables;
 pub use geometry::{MvRefGeometry, grid_ok, own};
 pub use records::{legal_records, long_enough};
 pub use site::Site;
-pub use tables::{LentTables, Pairs};
+pub use tables::{LentTables, Pairs, frame_at, mv_at, sub_at};

@@ -7,7 +7,7 @@ ghost use Rattle.records.specs.Lent.{cells, PairRoom, Room, PrevRoom, prev_long_
 
 use crate::geometry::MvRefGeometry;
 use crate::site::Site;
-use crate::tables::{LentTables, Pairs};
+use crate::tables::{LentTables, Pairs, frame_at};
 
 // The previous tables are measured only where they are used.
 fn prev_long_enough(prev: Option<Pairs>, n: usize) -> bool
@@ -55,7 +55,7 @@ fn legal_frame(pairs: Pairs, i: usize, list: usize) -> bool
     requires { 2 * i + list < length pairs.frames.now }
     ensures { result ≡ Records.legal_frame (Tables.frame_at pairs.entry.frames.now i list) }
 {
-    base::between(-1, 3, pairs.frame_at(i, list))
+    base::between(-1, 3, frame_at(pairs.frames, i, list))
 }
 
 // What a previous record has.

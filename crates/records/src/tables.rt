@@ -23,23 +23,6 @@ pub struct LentTables<'a> {
     pub prev: Option<Pairs<'a>>,
 }
 
-impl<'a> Pairs<'a> {
-    // Frames as 32-bit numbers, as a target frame is.
-    pub fn frame_at(self, i: usize, list: usize) -> i32
-        requires { 2 * i + list < length self.frames.now }
-        ensures { result ≡ Tables.frame_at self.entry.frames.now i list }
-    {
-        i32::from(self.frames[2 * i + list])
-    }
-
-    pub fn mv_at(self, i: usize, list: usize) -> Mv
-        requires { 4 * i + 2 * list + 1 < length self.mvs.now }
-        ensures { Read (Tables.mv_at self.entry.mvs.now i list) result }
-    {
-        vector_at(self.mvs, 4 * i + 2 * list)
-    }
-}
-
 impl<'a> LentTables<'a> {
     pub fn pairs(self) -> Pairs<'a>
         ensures { result ≡ record { frames = self.entry.frames; mvs = self.entry.mvs } }
@@ -49,20 +32,14 @@ impl<'a> LentTables<'a> {
             mvs: self.mvs,
         }
     }
+}
 
-    pub fn frame_at(self, i: usize, list: usize) -> i32
-        requires { 2 * i + list < length self.frames.now }
-        ensures { result ≡ Tables.frame_at self.entry.frames.now i list }
-    {
-        self.pairs().frame_at(i, list)
-    }
-
-    pub fn sub_at(self, i: usize, list: usize, number: usize) -> Mv
-        requires { ((2 * i + list) * 4 + number) * 2 + 1 < length self.subs.now }
-        ensures { Read (Tables.sub_at self.entry.subs.now i list number) result }
-    {
-        vector_at(self.subs, ((2 * i + list) * 4 + number) * 2)
-    }
+// Frames as 32-bit numbers, as a target frame is.
+pub fn frame_at(frames: &[i8], i: usize, list: usize) -> i32
+    requires { 2 * i + list < length frames.now }
+    ensures { result ≡ Tables.frame_at frames.now i list }
+{
+    i32::from(frames[2 * i + list])
 }
 
 // The vector whose row stands at `at` and whose column follows it.
@@ -74,4 +51,18 @@ fn vector_at(parts: &[i16], at: usize) -> Mv
         row: Eighth(i32::from(parts[at])),
         col: Eighth(i32::from(parts[at + 1])),
     }
+}
+
+pub fn mv_at(mvs: &[i16], i: usize, list: usize) -> Mv
+    requires { 4 * i + 2 * list + 1 < length mvs.now }
+    ensures { Read (Tables.mv_at mvs.now i list) result }
+{
+    vector_at(mvs, 4 * i + 2 * list)
+}
+
+pub fn sub_at(subs: &[i16], i: usize, list: usize, number: usize) -> Mv
+    requires { ((2 * i + list) * 4 + number) * 2 + 1 < length subs.now }
+    ensures { Read (Tables.sub_at subs.now i list number) result }
+{
+    vector_at(subs, ((2 * i + list) * 4 + number) * 2)
 }
