@@ -77,20 +77,20 @@ chosen n v f = by-test (eqb n 0) refl
     by-test false e = omega arith
 
 module _ (t : Tables) (g : MvRefGeometry) (target block : ℤ) (bias : List Bool) (on : Bool) where
-  accepted : answer (search_rows t g target block on) ≡ 0 → SearchOk t g (between (negsuc 0) (pos 3) block) on
-  accepted e = search_ok t g target (between (negsuc 0) (pos 3) block) on e
+  accepted : answer (search_rows t g target block on) ≡ 0 → SearchOk t g target (leb g.mi_size 12 && between (negsuc 0) (pos 3) block) on
+  accepted e = search_ok t g target (leb g.mi_size 12 && between (negsuc 0) (pos 3) block) on e
 
   pub find_first_kept : Small (find_mv_refs t g target block bias on).first
   unfolding find_mv_refs
   find_first_kept =
       chosen (answer (search_rows t g target block on)) _
-      (λ e. ref_kept 128 g _ (accepted e).grid (candidates_small t g target block bias on (accepted e).legal).first)
+      (λ e. ref_kept 128 g _ (accepted e).call.grid (candidates_small t g target block bias on (accepted e).legal).first)
 
   pub find_second_kept : Small (find_mv_refs t g target block bias on).second
   unfolding find_mv_refs
   find_second_kept =
       chosen (answer (search_rows t g target block on)) _
-      (λ e. ref_kept 128 g _ (accepted e).grid (candidates_small t g target block bias on (accepted e).legal).second)
+      (λ e. ref_kept 128 g _ (accepted e).call.grid (candidates_small t g target block bias on (accepted e).legal).second)
 
   pub find_context_range : (find_mv_refs t g target block bias on).context ≤ 6
   unfolding find_mv_refs

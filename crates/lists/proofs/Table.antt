@@ -46,38 +46,40 @@ accepted_more m (r ∷ rows) more h e =
 
 -- ---- the search's table
 
-pub record CallOk (g : MvRefGeometry) (block_ok : Bool) : Type 0 where
+pub record CallOk (right : Bool) (g : MvRefGeometry) (target : ℤ) : Type 0 where
+  pub block : right ≡ true
+  pub grid : grid_ok g ≡ true
+  pub aimed : between (pos 1) (pos 3) target ≡ true
+
+pub call_ok : (right : Bool) (g : MvRefGeometry) (target : ℤ) → answer (call_rows right g target) ≡ 0 → CallOk right g target
+call_ok right g target e =
+    let p = unless_zero 0 right _ e in
+    let q = unless_zero 1 (grid_ok g) _ p.1 in
+    record { block = p.0; grid = q.0; aimed = (unless_zero 2 (between (pos 1) (pos 3) target) 0 q.1).0 }
+
+-- row 1 as the calls ask it: of the block's size, and of the sub-block
+pub record SizedOk (g : MvRefGeometry) (block_ok : Bool) : Type 0 where
   pub size : g.mi_size ≤ 12
   pub block : block_ok ≡ true
-  pub grid : grid_ok g ≡ true
 
-pub call_ok : (g : MvRefGeometry) (target : ℤ) (block_ok : Bool) → answer (call_rows (leb g.mi_size 12 && block_ok) g target) ≡ 0 → CallOk g block_ok
-call_ok g target block_ok e =
-    let p = unless_zero 0 (leb g.mi_size 12 && block_ok) _ e in
-    record {
-      size = leb-true g.mi_size 12 (and_left (leb g.mi_size 12) block_ok p.0);
-      block = and_right (leb g.mi_size 12) block_ok p.0;
-      grid = (unless_zero 1 (grid_ok g) _ p.1).0;
-    }
+pub sized_ok : (g : MvRefGeometry) (block_ok : Bool) → leb g.mi_size 12 && block_ok ≡ true → SizedOk g block_ok
+sized_ok g block_ok e =
+    record { size = leb-true g.mi_size 12 (and_left (leb g.mi_size 12) block_ok e); block = and_right (leb g.mi_size 12) block_ok e }
 
-pub record SearchOk (t : Tables) (g : MvRefGeometry) (block_ok use_prev : Bool) : Type 0 where
-  pub size : g.mi_size ≤ 12
-  pub block : block_ok ≡ true
-  pub grid : grid_ok g ≡ true
+pub record SearchOk (t : Tables) (g : MvRefGeometry) (target : ℤ) (right use_prev : Bool) : Type 0 where
+  pub call : CallOk right g target
   pub long : long_enough t g use_prev ≡ true
   pub legal : legal_records t g use_prev ≡ true
 
-pub search_ok : (t : Tables) (g : MvRefGeometry) (target : ℤ) (block_ok use_prev : Bool)
-    → answer (shared_rows t g target (leb g.mi_size 12 && block_ok) use_prev) ≡ 0 → SearchOk t g block_ok use_prev
-search_ok t g target block_ok use_prev e =
-    let p = unless_zero 0 (leb g.mi_size 12 && block_ok) _ e in
+pub search_ok : (t : Tables) (g : MvRefGeometry) (target : ℤ) (right use_prev : Bool)
+    → answer (shared_rows t g target right use_prev) ≡ 0 → SearchOk t g target right use_prev
+search_ok t g target right use_prev e =
+    let p = unless_zero 0 right _ e in
     let q = unless_zero 1 (grid_ok g) _ p.1 in
     let r = unless_zero 2 (between (pos 1) (pos 3) target) _ q.1 in
     let s = unless_zero 6 (long_enough t g use_prev) _ r.1 in
     record {
-      size = leb-true g.mi_size 12 (and_left (leb g.mi_size 12) block_ok p.0);
-      block = and_right (leb g.mi_size 12) block_ok p.0;
-      grid = q.0;
+      call = record { block = p.0; grid = q.0; aimed = r.0 };
       long = s.0;
       legal = (unless_zero 7 (legal_records t g use_prev) 0 s.1).0;
     }
@@ -124,15 +126,17 @@ pub record AppendOk (t : Tables) (g : MvRefGeometry) (b : ℕ) (m : List Mv) (us
 pub append_ok : (t : Tables) (g : MvRefGeometry) (target : ℤ) (b : ℕ) (m : List Mv) (use_prev : Bool)
     → answer (append_rows t g target b m use_prev) ≡ 0 → AppendOk t g b m use_prev
 append_ok t g target b m use_prev e =
-    let rows = shared_rows t g target (leb g.mi_size 12 && leb b 3) use_prev in
+    let right = leb g.mi_size 12 && leb b 3 in
+    let rows = shared_rows t g target right use_prev in
     let last = row VECTOR (legal_four m) ∷ [] in
     let none = first_zero 0 rows last refl e in
-    let p = search_ok t g target (leb b 3) use_prev none in
+    let p = search_ok t g target right use_prev none in
+    let first = sized_ok g (leb b 3) p.call.block in
     let four = sym (accepted_more 0 rows last refl none) ∙ e in
     record {
-      size = p.size;
-      block = p.block;
-      grid = p.grid;
+      size = first.size;
+      block = first.block;
+      grid = p.call.grid;
       long = p.long;
       legal = p.legal;
       four = (unless_zero 8 (legal_four m) 0 four).0;

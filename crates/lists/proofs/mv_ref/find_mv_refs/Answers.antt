@@ -1,6 +1,8 @@
 -- `find_mv_refs` meets its contract: refused by the table, or both candidates clamped. Assumes nothing.
 use mathlib.Core.Path.{◌≡◌, sym, ap, ◌∙◌}
+use mathlib.Core.Bool.{◌&&◌}
 use native.Mathlib.Omega.{arith}
+use lib.Dec.{leb}
 use lib.IntN.{pos, negsuc}
 use mir.Facts.{to_z-of_z}
 use Rattle.std.proofs.lemmas.Result.{err_from_is_err_and}
@@ -12,7 +14,7 @@ use Rattle.candidates.specs.Scan.{found}
 use Rattle.candidates.specs.declared.find.Found.{Found}
 use Rattle.lists.specs.MvRef.{clamp_ref, search_rows, find_mv_refs}
 use Rattle.lists.proofs.Same.{refs_same}
-use Rattle.lists.proofs.Table.{SearchOk, search_ok}
+use Rattle.lists.proofs.Table.{SearchOk, search_ok, SizedOk, sized_ok}
 use Rattle.lists.proofs.mv_ref.find_mv_refs.Goals as goal
 use Rattle.lists.proofs.mv_ref.find_mv_refs.Goals.{In_ok-site}
 
@@ -23,8 +25,12 @@ zero c =
     sym (rw (to_z-of_z c.ranges.target, block) at c.in_ok-site.ensures.told)
 
 ok : (c : In_ok-site)
-    → let a = c.args in SearchOk (seen a.tables) a.geometry (between (negsuc 0) (pos 3) a.block) (has_prev a.tables)
-ok c = let a = c.args in search_ok (seen a.tables) a.geometry a.target (between (negsuc 0) (pos 3) a.block) (has_prev a.tables) (zero c)
+    → let a = c.args in
+    SearchOk (seen a.tables) a.geometry a.target (leb a.geometry.mi_size 12 && between (negsuc 0) (pos 3) a.block) (has_prev a.tables)
+ok c = let a = c.args in search_ok (seen a.tables) a.geometry a.target _ (has_prev a.tables) (zero c)
+
+first : (c : In_ok-site) → SizedOk c.args.geometry (between (negsuc 0) (pos 3) c.args.block)
+first c = sized_ok c.args.geometry _ (ok c).call.block
 
 pub returns-in_err-site : goal.returns-in_err-site
 unfolding find_mv_refs
@@ -36,14 +42,14 @@ returns-in_err-site c =
 
 pub search-found-requires : goal.search-found-requires
 search-found-requires c =
-    let call = ok c in
-    record { block = rw (to_z-of_z c.ranges.block) call.block; long = rw c.in_ok-site.ensures.site call.long }
+    record { block = rw (to_z-of_z c.ranges.block) (first c).block; long = rw c.in_ok-site.ensures.site (ok c).long }
 
 pub clamp_ref-first-requires : goal.clamp_ref-first-requires
-clamp_ref-first-requires c = let call = ok c.before.before in record { border = omega arith; size = call.size; grid = call.grid }
+clamp_ref-first-requires c = let s = c.before.before in record { border = omega arith; size = (first s).size; grid = (ok s).call.grid }
 
 pub clamp_ref-second-requires : goal.clamp_ref-second-requires
-clamp_ref-second-requires c = let call = ok c.before.before.before.before in record { border = omega arith; size = call.size; grid = call.grid }
+clamp_ref-second-requires c =
+    let s = c.before.before.before.before in record { border = omega arith; size = (first s).size; grid = (ok s).call.grid }
 
 pub returns : goal.returns
 unfolding find_mv_refs found

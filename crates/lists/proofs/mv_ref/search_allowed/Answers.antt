@@ -7,7 +7,7 @@ use Rattle.base.proofs.Numbered.{not_accepted}
 use Rattle.base.proofs.Rows.{handed}
 use Rattle.records.specs.Seen.{seen, has_prev}
 use Rattle.lists.specs.Rows.{call_rows, table_rows}
-use Rattle.lists.proofs.Table.{refused_more, accepted_more, call_ok}
+use Rattle.lists.proofs.Table.{refused_more, accepted_more, call_ok, sized_ok}
 use Rattle.lists.proofs.mv_ref.search_allowed.Goals as goal
 
 pub returns-in_err-call_allowed-clause-told : goal.returns-in_err-call_allowed-clause-told
@@ -21,8 +21,9 @@ returns-in_err-call_allowed-clause-told c =
 pub new-site-requires : goal.new-site-requires
 new-site-requires c =
     let is = rw (to_z-of_z c.ranges.target) at c.in_ok-call_allowed.ensures in
-    let ok = call_ok c.args.g c.args.target c.args.block_ok (sym is) in
-    record { grid = ok.grid; size = ok.size }
+    let a = c.args in
+    let ok = call_ok (leb a.g.mi_size 12 && a.block_ok) a.g a.target (sym is) in
+    record { grid = ok.grid; size = (sized_ok a.g a.block_ok ok.block).size }
 
 pub returns-in_err-tables_allowed-clause-told : goal.returns-in_err-tables_allowed-clause-told
 returns-in_err-tables_allowed-clause-told c =
