@@ -6,5 +6,7 @@ mod plain;
 mod taps;
 
 pub use eight::Taps;
-pub use plain::{ORIGIN, held, left_of, lesser, moved, repeated, row_averaged, row_clipped};
+pub use plain::{
+    ORIGIN, held, left_of, lesser, moved, repeated, row_averaged, row_clipped, run_copied,
+};
 pub use taps::{subpel_table, taps_at};

@@ -1,4 +1,4 @@
-// What rows of results share: the lesser of two numbers; a row held to the depth, averaged into the output.
+// What rows of results share: the lesser of two numbers; a run copied, a row held to the depth, averaged into the output.
 ghost use Rattle.base.specs.Paint.{fill};
 ghost use Rattle.taps.specs.Kernel.{alike, clipped, onward, mean_of};
 ghost use Rattle.std.specs.Prelude.{◌≡◌, ◌+◌, ◌-◌, ◌/◌, ◌≤◌, min, length};
@@ -50,6 +50,16 @@ pub fn moved<const N: usize>(l: &[u16], s: usize, out: &mut [u16], at: usize)
     }
     for c in 0..N {
         out[at + c] = read[c];
+    }
+}
+
+// A run of samples of any length. Nothing in the library calls it: of such a loop the compiler makes a call of C's memcpy, which the archive is not to need.
+pub fn run_copied(row: &[u16], s: usize, n: usize, line: &mut [u16], at: usize)
+    requires { (s + n ≤ length row.now) × (at + n ≤ length line.old) }
+    ensures { line.new ≡ fill line.old at n (onward row.now s) }
+{
+    for k in 0..n {
+        line[at + k] = row[s + k];
     }
 }
 
