@@ -243,6 +243,16 @@ fn rows_first(l: &[u16], w: usize, h: usize, out: &mut [u16], at: usize, stride:
     }
 }
 
+// The same of four, the usual narrow width.
+fn rows_four(l: &[u16], h: usize, out: &mut [u16], at: usize, stride: usize)
+    requires { (h * 8 ≤ length l.now) × (at + (h - 1) * stride + 4 ≤ length out.old) }
+    ensures { out.new ≡ fill_rows out.old at stride 4 h (eighths l.now) }
+{
+    for i in 0..h {
+        four_moved(l, i * 8, out, at + i * stride);
+    }
+}
+
 // Narrow rows by way of rows of eight: what is computed past their ends is dropped.
 fn narrow<const APART: usize>(
     l: &[u16],
@@ -260,7 +270,11 @@ fn narrow<const APART: usize>(
 {
     let mut wide = [0u16; 128];
     rows_low::<APART>(l, b, line, p, 8, h, &mut wide, 0, 8);
-    rows_first(&wide, w, h, out, at, stride)
+    if w == 4 {
+        rows_four(&wide, h, out, at, stride)
+    } else {
+        rows_first(&wide, w, h, out, at, stride)
+    }
 }
 
 // Rows of results over samples of at most 255.
