@@ -48,13 +48,19 @@ even_pair max p l s line start y0 w n same i c ni cw =
     (fifth_is l 1 (s + i * line + c) ∙ ap (λ (k : ℕ). get_or l k 0) place ∙ same i (c + 1) ni (omega arith)
     ∙ ap (λ (k : ℕ). plane p v (min (k - 200003) last)) next))
 
+-- the lines of rows y0 + i and on give rows i and on of the pass
+pub chunk_pair : (max : ℕ) (p : Lent) (lines : List ℕ) (start y0 i w m : ℕ) → HeldLines p (start / 16 + 3) (y0 + i) m (w + 1) lines
+    → (r c : ℕ) → r < m → c < w → pair_rows max (start % 16) lines 1 0 71 r c ≡ across_from max (tap 3) p start 16 y0 (i + r) c
+chunk_pair max p lines start y0 i w m held r c rm cw =
+    even_pair max p lines 0 71 start (y0 + i) w m
+    (λ k d km dw. ap (λ (j : ℕ). get_or lines (j + d) 0) (zero-add (k * 71)) ∙ held.is k d km dw) r c rm cw
+    ∙ across_on max (tap 3) p start 16 y0 i r c
+
 -- the line of row y0 + j gives row j of the pass
 pub line_is : (max : ℕ) (p : Lent) (line : List ℕ) (start y0 j w : ℕ) → HeldLines p (start / 16 + 3) (y0 + j) 1 (w + 1) line
     → (c : ℕ) → c < w → pair_rows max (start % 16) line 1 0 71 0 c ≡ across_from max (tap 3) p start 16 y0 j c
 line_is max p line start y0 j w held c cw =
-    even_pair max p line 0 71 start (y0 + j) w 1
-    (λ k d km dw. ap (λ (u : ℕ). get_or line (u + d) 0) (zero-add (k * 71)) ∙ held.is k d km dw) 0 c (omega arith) cw
-    ∙ across_on max (tap 3) p start 16 y0 j c
+    chunk_pair max p line start y0 j w 1 held 0 c (omega arith) cw ∙ ap (λ (i : ℕ). across_from max (tap 3) p start 16 y0 i c) (add-zero j)
 
 -- a line that has the held samples from the start's fourth column on
 pub line_pair : (max : ℕ) (row line : List ℕ) (last start step w d : ℕ)

@@ -1,15 +1,15 @@
 -- Rows of copies are the horizontal pass at whole columns in steps of 16: a row of the plane, rows of one band, and the band's length.
 -- Assumes nothing.
-use mathlib.Core.Path.{◌≡◌, sym, ap, ◌∙◌}
+use mathlib.Core.Path.{◌≡◌, refl, sym, ap, ◌∙◌}
 use mathlib.Core.List.{List}
-use mathlib.Core.Bool.{Bool, true, false, ◌&&◌}
+use mathlib.Core.Bool.{Bool, true, false, cond, ◌&&◌, ◌||◌}
 use Prim.Native.Nat.{ℕ, ◌+◌, ◌-◌, ◌*◌, ◌/◌, ◌%◌, ◌<◌, ◌≤◌, min}
 use native.Mathlib.Nat.{zero-add, add-mul, mul-le-mul, min-le_right}
 use native.Mathlib.Omega.{arith}
-use borrow.Author.Tests.{leb-true, lt-ltb, le-ltb}
-use lib.Dec.{ltb}
+use borrow.Author.Tests.{leb-true, lt-leb, ltb-true, ltb-false, lt-ltb, le-ltb}
+use lib.Dec.{leb, ltb}
 use lib.IntN.{ℤ}
-use lib.ListN.{get_or}
+use lib.ListN.{length, get_or}
 use Rattle.base.proofs.Tests.{and_both}
 use Rattle.taps.specs.Taps.{tap}
 use Rattle.taps.specs.Kernel.{apart, clipped, held_from, level, ran, ran_rows, seat}
@@ -68,6 +68,10 @@ less_add e k i h = omega arith
 not-before : (e k i : ℕ) → k ≤ e → ltb (e + i) k ≡ false
 not-before e k i h = le-ltb (e + i) k (omega arith)
 
+or_left : (a b : Bool) → (a || b) ≡ true → b ≡ false → a ≡ true
+or_left true b e f = refl
+or_left false b e f = sym f ∙ e
+
 pub out-fits : (n stride w len : ℕ) → holds n stride w len ≡ true → Rows n stride w 0 len
 out-fits n stride w len h = record { ends = λ i ni. rw zero-add (holds_row n stride w len i h ni) }
 
@@ -125,6 +129,41 @@ pub stands_copy : {p : Lent} {b y0 w n : ℕ} {band : List ℕ} {s : ℕ} (max :
     → (i c : ℕ) → i < n → c < w → clipped_rows max band s p.geom.stride i c ≡ copy_from max p b y0 i c
 unfolding clipped_rows clipped copy_from
 stands_copy max part i c ni cw = ap (λ (v : ℕ). min v max) (part.is i c ni cw)
+
+-- the band that all the rows stand in, and the first row in it
+module _ (max : ℕ) (p : Lent) (b y0 w n : ℕ) (in-x : unheld b w (width_of p.geom) ≡ true) (in-y : unheld y0 n (height_of p.geom) ≡ true)
+    (fit : fits p ≡ true) (l : List ℕ) (r : ℕ) (band : l ≡ cond (ltb (y0 - 200003) p.geom.upper_rows) p.upper p.lower)
+    (first : r ≡ cond (ltb (y0 - 200003) p.geom.upper_rows) (y0 - 200003) (y0 - 200003 - p.geom.upper_rows))
+    (all : (leb (y0 - 200003 + n) p.geom.upper_rows || leb p.geom.upper_rows (y0 - 200003)) ≡ true) where
+  none-below : ltb (y0 - 200003) p.geom.upper_rows ≡ true → y0 - 200003 + n ≤ p.geom.upper_rows
+  none-below t =
+      let e = y0 - 200003 in
+      let k = p.geom.upper_rows in
+      leb-true (e + n) k (or_left (leb (e + n) k) (leb k e) all (lt-leb k e (ltb-true e k t)))
+
+  band_stands : Stands p b y0 w n l (r * p.geom.stride + (b - 200003))
+  band_stands = rw (band, first) (by-test (ltb (y0 - 200003) p.geom.upper_rows) refl)
+    where
+      both : ((200003 ≤ b) × (b - 200003 + w ≤ width_of p.geom)) × ((200003 ≤ y0) × (y0 - 200003 + n ≤ height_of p.geom))
+      both = (unheld_says b w _ in-x, unheld_says y0 n _ in-y)
+
+      by-test : (t : Bool) → ltb (y0 - 200003) p.geom.upper_rows ≡ t
+          → Stands p b y0 w n (cond t p.upper p.lower) (cond t (y0 - 200003) (y0 - 200003 - p.geom.upper_rows) * p.geom.stride + (b - 200003))
+      by-test true t = in_upper p b y0 w n both fit (none-below t)
+      by-test false t = in_lower p b y0 w n both fit (ltb-false _ _ t)
+
+  pub band_fits : Rows n p.geom.stride w (r * p.geom.stride + (b - 200003)) (length l)
+  band_fits = band_stands.inside
+
+  -- what it has where the rectangle reads
+  pub band_at : (i c : ℕ) → i < n → c < w
+      → get_or l (r * p.geom.stride + (b - 200003) + i * p.geom.stride + c) 0
+      ≡ plane p (min (y0 + i - 200003) (height_of p.geom - 1)) (min (b + c - 200003) (width_of p.geom - 1))
+  band_at = band_stands.is
+
+  pub band_copy : (i c : ℕ) → i < n → c < w
+      → clipped_rows max l (r * p.geom.stride + (b - 200003)) p.geom.stride i c ≡ copy_from max p b y0 i c
+  band_copy = stands_copy max band_stands
 
 -- rows of one phase over a list that has what eight taps read are the horizontal pass in steps of 16
 pub even_row : (max : ℕ) (taps : ℕ → ℕ → ℤ) (p : Lent) (l : List ℕ) (s line start y0 w n : ℕ)
