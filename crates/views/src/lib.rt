@@ -3,4 +3,4 @@
 
 mod ref_plane;
 
-pub use ref_plane::{RefPlane, read_row, row_answer};
+pub use ref_plane::{RefPlane, read_row, read_row_or_empty, row_answer};

@@ -8,7 +8,9 @@ ghost use Rattle.samples.specs.Call.{call, ref, Outcome};
 ghost use Rattle.views.specs.Seen.{size_of, lent_by};
 
 use base::Refusal;
-use samples::{BlockShape, PlaneGeom, Reference, Stepping, block_inter_predict, row_read};
+use samples::{
+    BlockShape, PlaneGeom, Reference, Stepping, block_inter_predict, row_or_empty, row_read,
+};
 
 // The bands, the plane's size in samples, the distance between rows, and how many rows the upper band has; the lower one has the rest.
 #[derive(Clone, Copy)]
@@ -79,6 +81,13 @@ impl<'a> RefPlane<'a> {
         row_read(self.upper, self.lower, self.size(), y)
     }
 
+    // The same for who wants a part of the bands in any case: where the row is refused, an empty part of the upper band.
+    pub fn row_or_empty(self, y: usize) -> &'a [u16]
+        ensures { ReadOutcome (size_of self.entry) self.entry.upper self.entry.lower y (answer (read_rows (lent_by self.entry) y)) result }
+    {
+        row_or_empty(self.upper, self.lower, self.size(), y)
+    }
+
     // A block from this plane, which is lent for both lists: where the shape says average, it is one with itself.
     pub fn predict(
         self,
@@ -132,6 +141,22 @@ pub fn read_row<'a>(
     ensures { ReadOutcome (geom width height stride upper_rows) upper.entry lower.entry y (told result) (row_or upper.entry result) }
 {
     RefPlane::new(upper, lower, width, height, stride, upper_rows).row(y)
+}
+
+// The same for who wants a part of the bands in any case: where the row is refused, an empty part of the upper band.
+pub fn read_row_or_empty<'a>(
+    upper: &'a [u16],
+    lower: &'a [u16],
+    width: i32,
+    height: i32,
+    stride: usize,
+    upper_rows: usize,
+    y: usize,
+) -> &'a [u16]
+    ensures { ReadOutcome (geom width height stride upper_rows) upper.entry lower.entry y
+        (answer (read_rows (lent (geom width height stride upper_rows) upper.now lower.now) y)) result }
+{
+    RefPlane::new(upper, lower, width, height, stride, upper_rows).row_or_empty(y)
 }
 
 // Whether row y can be read.
