@@ -191,9 +191,17 @@ fn kind(filter: usize, depth: u32) -> bool
     (filter <= 3) & ((depth == 8) | (depth == 10) | (depth == 12))
 }
 
+// Whether a call below answered something else.
+#[tactic(auto, unfolding(crate::specs::Chain::other_than))]
+pub fn other_than(number: u32, answer: u32) -> bool
+    ensures { result ≡ Chain.other_than number answer }
+{
+    answer != number
+}
+
 // Whether a call below was not refused by this row.
 #[tactic(auto, unfolding(crate::specs::Chain::other_than))]
-pub fn other_than<T: Copy>(row: Refusal, answer: Result<T, Refusal>) -> bool
+pub fn not_refused_by<T: Copy>(row: Refusal, answer: Result<T, Refusal>) -> bool
     ensures { result ≡ Chain.other_than (number row) (told answer) }
 {
     match answer {
@@ -208,14 +216,15 @@ fn allowed(args: InterPredArgs, one: Led, two: Led, lent: bool) -> Result<(), Re
     ensures { told result ≡ Chain.refusal args (numbers one) (numbers two) lent }
 {
     let block = within(1, 64, args.w) & within(1, 64, args.h);
-    Refusal::Block.unless(other_than(Refusal::Block, one.select) & block)?;
-    Refusal::Grid.unless(other_than(Refusal::Grid, one.clamp))?;
+    Refusal::Block.unless(not_refused_by(Refusal::Block, one.select) & block)?;
+    Refusal::Grid.unless(not_refused_by(Refusal::Grid, one.clamp))?;
     Refusal::Filter.unless(kind(args.filter, args.depth))?;
-    let size = other_than(Refusal::Size, one.scale) & other_than(Refusal::Size, two.scale);
+    let size = not_refused_by(Refusal::Size, one.scale) & not_refused_by(Refusal::Size, two.scale);
     Refusal::Size.unless(size)?;
-    Refusal::Start.unless(other_than(Refusal::Start, one.scale))?;
+    Refusal::Start.unless(not_refused_by(Refusal::Start, one.scale))?;
     Refusal::Short.unless(lent)?;
-    let vector = other_than(Refusal::Vector, one.select) & other_than(Refusal::Vector, two.select);
+    let vector = not_refused_by(Refusal::Vector, one.select)
+        & not_refused_by(Refusal::Vector, two.select);
     Refusal::Vector.unless(vector)
 }
 

@@ -4,6 +4,6 @@
 mod judging;
 
 pub use judging::{
-    DestGeom, FrameGeom, InterPredArgs, Judged, Led, RefGeom, RefSource, judge, lead, other_than,
-    plane_geom,
+    DestGeom, FrameGeom, InterPredArgs, Judged, Led, RefGeom, RefSource, judge, lead,
+    not_refused_by, other_than, plane_geom,
 };

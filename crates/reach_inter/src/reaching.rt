@@ -7,7 +7,7 @@ ghost use Rattle.reach_inter.specs.InterReach as InterReach;
 ghost use Rattle.reach_inter.specs.Chain as Chain;
 
 use base::{Mv, Refusal, natural, within};
-use judgement::{FrameGeom, InterPredArgs, Led, RefGeom, lead, other_than, plane_geom};
+use judgement::{FrameGeom, InterPredArgs, Led, RefGeom, lead, not_refused_by, plane_geom};
 use reach::{Span, readable};
 use vectors::BlockGrid;
 
@@ -17,11 +17,11 @@ fn allowed(args: InterPredArgs, led: Led) -> Result<(), Refusal>
     ensures { told result ≡ Chain.refusal args (numbers led) }
 {
     let block = within(1, 64, args.w) & within(1, 64, args.h);
-    Refusal::Block.unless(other_than(Refusal::Block, led.select) & block)?;
-    Refusal::Grid.unless(other_than(Refusal::Grid, led.clamp))?;
-    Refusal::Size.unless(other_than(Refusal::Size, led.scale))?;
-    Refusal::Start.unless(other_than(Refusal::Start, led.scale))?;
-    Refusal::Vector.unless(other_than(Refusal::Vector, led.select))
+    Refusal::Block.unless(not_refused_by(Refusal::Block, led.select) & block)?;
+    Refusal::Grid.unless(not_refused_by(Refusal::Grid, led.clamp))?;
+    Refusal::Size.unless(not_refused_by(Refusal::Size, led.scale))?;
+    Refusal::Start.unless(not_refused_by(Refusal::Start, led.scale))?;
+    Refusal::Vector.unless(not_refused_by(Refusal::Vector, led.select))
 }
 
 // What a whole prediction can read of the plane of one list's reference, whose frame has this size.
