@@ -2,11 +2,17 @@
 use mathlib.Core.Path.{◌≡◌, sym, ◌∙◌}
 use Rattle.std.proofs.lemmas.Result.{err_from_is_err_and}
 use Rattle.base.proofs.Numbered.{not_zero}
+use Rattle.base.specs.declared.units.Mv.{Mv}
 use Rattle.vectors.specs.Select.{select_mv, list_number}
+use Rattle.vectors.specs.declared.inter_mv.SelectedMv.{SelectedMv}
 use Rattle.vectors.proofs.Accepted.{select_ok}
 use Rattle.selection.proofs.Parts.{legal-list, list_number-byte, list_number_small}
 use Rattle.vectors.proofs.inter_mv.select_mv.Goals as goal
 use Rattle.vectors.proofs.inter_mv.select_mv.Goals.{After-from-list}
+
+-- equal vectors make equal results
+same : {v w : Mv} → v ≡ w → ◌≡◌ {A = SelectedMv} (record { answer = 0; mv = v }) (record { answer = 0; mv = w })
+same e = rw e
 
 pub returns-in_err-select_allowed : goal.returns-in_err-select_allowed
 unfolding select_mv
@@ -26,4 +32,4 @@ chosen-vector-requires c =
 
 pub returns : goal.returns
 unfolding select_mv
-returns c = rw (← c.in_ok-select_allowed.ensures, rw (list-is c.before) at c.chosen-vector.ensures)
+returns c = rw (← c.in_ok-select_allowed.ensures) (same (rw (list-is c.before) at c.chosen-vector.ensures))
