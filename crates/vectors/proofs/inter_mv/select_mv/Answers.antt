@@ -32,4 +32,6 @@ chosen-vector-requires c =
 
 pub returns : goal.returns
 unfolding select_mv
-returns c = rw (← c.in_ok-select_allowed.ensures) (same (rw (list-is c.before) at c.chosen-vector.ensures))
+returns c =
+    let list = c.from-list.ensures ∙ list_number-byte c.args.second in
+    rw (← c.in_ok-select_allowed.ensures) (same (rw list at c.chosen-vector.ensures))
