@@ -26,7 +26,6 @@ readable-requires c =
 pub returns : goal.returns
 unfolding block_reach
 returns c =
-    let e = rw (to_z-of_z c.ranges.width, to_z-of_z c.ranges.height) at c.in_ok-reachable.ensures in
     let n1 = rw (to_z-of_z c.ranges.width) at c.natural.ensures in
     let n2 = rw (to_z-of_z c.ranges.height) at c.natural-2.ensures in
-    rw (c.readable.ensures, sym e, n1, n2)
+    rw (c.readable.ensures, sym (rw (to_z-of_z c.ranges.width, to_z-of_z c.ranges.height) at c.in_ok-reachable.ensures), n1, n2)
