@@ -34,5 +34,5 @@ pub fn clip3(low: i32, high: i32, x: i32) -> i32
 pub fn natural(x: i32) -> usize
     ensures { result ≡ to_n x }
 {
-    usize::try_from(x).unwrap_or(0)
+    x.max(0) as usize
 }
