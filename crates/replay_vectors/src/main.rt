@@ -10,6 +10,9 @@ use std::io::{ErrorKind, Read, Write};
 use stored::{flag_at, i32_at, u32_at, usize_at};
 use vectors::{BlockGrid, ClampedMv, ScaleGeom, ScaledMv, SelectedMv};
 
+// Room for a record of any call. Its length is known, so that no byte of it is asked for twice, and past a shorter record it has zeros.
+type Record = [u8; 96];
+
 // The calls that are replayed, under their numbers in a file of cases.
 #[derive(Clone, Copy)]
 enum Call {
@@ -51,7 +54,7 @@ impl Call {
         }
     }
 
-    fn agrees(self, record: &[u8]) -> bool {
+    fn agrees(self, record: &Record) -> bool {
         match self {
             Call::Select => select_agrees(record),
             Call::Clamp => clamp_agrees(record),
@@ -101,7 +104,7 @@ fn list(record: &[u8], at: usize) -> [Mv; 4]
     ]
 }
 
-fn select_agrees(r: &[u8]) -> bool {
+fn select_agrees(r: &Record) -> bool {
     let told = SelectedMv::from(vectors::select_mv(
         [list(r, 0), list(r, 32)],
         flag_at(r, 81),
@@ -117,7 +120,7 @@ fn select_agrees(r: &[u8]) -> bool {
     }
 }
 
-fn clamp_agrees(r: &[u8]) -> bool {
+fn clamp_agrees(r: &Record) -> bool {
     let grid = BlockGrid {
         mi_row: i32_at(r, 8),
         mi_col: i32_at(r, 12),
@@ -138,7 +141,7 @@ fn clamp_agrees(r: &[u8]) -> bool {
     }
 }
 
-fn scale_agrees(r: &[u8]) -> bool {
+fn scale_agrees(r: &Record) -> bool {
     let geom = ScaleGeom {
         ref_frame_width: i32_at(r, 8),
         ref_frame_height: i32_at(r, 12),
@@ -176,9 +179,8 @@ fn fill<R: Read>(input: &mut R, bytes: &mut [u8]) -> io::Result<bool>
 
 // The next record of a call; one that is missing does not agree.
 fn next_agrees<R: Read>(input: &mut R, call: Call) -> io::Result<bool> {
-    let mut room = [0u8; 96];
-    let record = &mut room[..call.size()];
-    Ok(fill(input, record)? && call.agrees(record))
+    let mut record = [0u8; 96];
+    Ok(fill(input, &mut record[..call.size()])? && call.agrees(&record))
 }
 
 fn differences<R: Read>(input: &mut R, call: Call, count: u32) -> io::Result<u32> {
