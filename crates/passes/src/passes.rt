@@ -90,7 +90,9 @@ fn pass_across<'a>(
     }
 }
 
-// Rows of copies near an edge, from the lifted row y0 and the lifted column b on.
+// Rows of copies near an edge, from the lifted row y0 and the lifted column b on. In a frame of its own: put into pass_rows it has too few registers, and
+// a row takes up to one and a half times as long.
+#[inline(never)]
 fn rows_held<'a>(plane: Bands<'a>, b: usize, y0: usize, area: Area, out: &mut [u16], rs: usize)
     requires places { (b ≤ 400003) × (y0 ≤ 400003) }
     requires out_value { holds area.height rs area.width (length out.old) ≡ true }
