@@ -41,13 +41,19 @@ fn predictable<'a>(
 ) -> Result<(), Refusal>
     ensures { told result ≡ Call.number_of (call shape (referred one.entry) (referred two.entry) stride) n m }
 {
-    let alone = !shape.average;
     Refusal::Block.unless(within(1, 64, shape.w) & within(1, 64, shape.h))?;
     Refusal::Filter.unless(kind(shape))?;
-    Refusal::Size.unless(sized(one.geom) && (alone || sized(two.geom)))?;
-    Refusal::Start.unless(starts(one.from) && (alone || starts(two.from)))?;
+    // Both lists' tests stand apart: among list 0's own, list 1's numbers are laid out for a call that does not average, too.
+    if shape.average {
+        Refusal::Size.unless(sized(one.geom) && sized(two.geom))?;
+        Refusal::Start.unless(starts(one.from) && starts(two.from))?;
+        Refusal::Short.unless(fits(one.upper, one.lower, one.geom))?;
+        let both = fits(two.upper, two.lower, two.geom);
+        return Refusal::Short.unless(both && out_fits(shape.w, shape.h, stride, n, m));
+    }
+    Refusal::Size.unless(sized(one.geom))?;
+    Refusal::Start.unless(starts(one.from))?;
     Refusal::Short.unless(fits(one.upper, one.lower, one.geom))?;
-    Refusal::Short.unless(alone || fits(two.upper, two.lower, two.geom))?;
     Refusal::Short.unless(out_fits(shape.w, shape.h, stride, n, m))
 }
 
