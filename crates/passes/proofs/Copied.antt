@@ -163,7 +163,8 @@ module _ (max : ℕ) (p : Lent) (b y0 w n : ℕ) (in-x : unheld b w (width_of p.
 
   pub band_copy : (i c : ℕ) → i < n → c < w
       → clipped_rows max l (r * p.geom.stride + (b - 200003)) p.geom.stride i c ≡ copy_from max p b y0 i c
-  band_copy = stands_copy max band_stands
+  unfolding clipped_rows clipped copy_from
+  band_copy i c ni cw = ap (λ (v : ℕ). min v max) (band_at i c ni cw)
 
 -- rows of one phase over a list that has what eight taps read are the horizontal pass in steps of 16
 pub even_row : (max : ℕ) (taps : ℕ → ℕ → ℤ) (p : Lent) (l : List ℕ) (s line start y0 w n : ℕ)
